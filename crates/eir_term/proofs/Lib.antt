@@ -1,0 +1,4 @@
+pub mod ListLaws
+pub mod MapLaws
+pub mod InstanceLaws
+pub mod HomLaws

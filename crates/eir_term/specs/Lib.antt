@@ -1,0 +1,20 @@
+-- In the order of reading.
+pub mod Lists
+pub mod Values
+pub mod Facts
+pub mod Instances
+pub mod Maps
+pub mod Homs
+pub mod Dependencies
+pub mod Satisfaction
+pub mod Universal
+pub mod Fitting
+pub mod Implication
+pub mod Extension
+pub mod Faults
+pub mod Canonical
+pub mod Bind
+pub mod Plans
+pub mod Search
+pub mod Verdicts
+pub mod Rows

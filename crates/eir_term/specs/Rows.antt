@@ -1,0 +1,121 @@
+-- The definitions computed on worked examples.
+use Rattle.std.specs.Prelude.{◌≡◌, ℕ, List, [], ◌∷◌, refl}
+use Rattle.eir_term.specs.declared.val.Val.{Val}
+use Rattle.eir_term.specs.declared.val.Val.TheVariants.{Const, Null}
+use Rattle.eir_term.specs.declared.fact.Fact.{Fact}
+use Rattle.eir_term.specs.declared.val.Kind.TheVariants.{Glav, Gav}
+use Rattle.eir_term.specs.declared.term.Term.{Term}
+use Rattle.eir_term.specs.declared.term.Term.TheVariants.{Var}
+use Rattle.eir_term.specs.declared.term.Atom.{Atom}
+use Rattle.eir_term.specs.Fitting.{DataExample}
+use Rattle.eir_term.specs.Search.{need}
+use Rattle.eir_term.specs.Verdicts.{verdict, foreign_at, no_fold_at, refuted, fits}
+
+-- relation 0 is of the source, relation 1 of the target
+abbrev pub source_fact : List Val → Fact
+source_fact vs = record { rel = 0; args = vs }
+
+abbrev pub target_fact : List Val → Fact
+target_fact vs = record { rel = 1; args = vs }
+
+abbrev pub source_atom : List Term → Atom
+source_atom ts = record { rel = 0; args = ts }
+
+abbrev pub target_atom : List Term → Atom
+target_atom ts = record { rel = 1; args = ts }
+
+-- Emp(ann,hr) with Works(ann,?b)
+abbrev pub one_employee : List DataExample
+one_employee = record { source = source_fact (Const 0 ∷ Const 1 ∷ []) ∷ []; target = target_fact (Const 0 ∷ Null 2 ∷ []) ∷ [] } ∷ []
+
+-- Emp(x1,x2) -> exists y1 . Works(x1,y1)
+pub one_employee-glav : verdict Glav one_employee ≡ fits (record {
+  premise = source_atom (Var 1 ∷ Var 2 ∷ []) ∷ [];
+  exists = 3 ∷ [];
+  conclusion = target_atom (Var 1 ∷ Var 3 ∷ []) ∷ [];
+} ∷ [])
+one_employee-glav = refl
+
+pub one_employee-gav : verdict Gav one_employee ≡ no_fold_at 0
+one_employee-gav = refl
+
+-- Emp(ann,hr) with Works(ann,hr); Emp(bob,it) and Emp(cy,it) with Works(bob,it)
+abbrev pub two_departments : List DataExample
+two_departments =
+    record { source = source_fact (Const 0 ∷ Const 1 ∷ []) ∷ []; target = target_fact (Const 0 ∷ Const 1 ∷ []) ∷ [] }
+    ∷ record {
+      source = source_fact (Const 2 ∷ Const 3 ∷ []) ∷ source_fact (Const 4 ∷ Const 3 ∷ []) ∷ [];
+      target = target_fact (Const 2 ∷ Const 3 ∷ []) ∷ [];
+    } ∷ []
+
+-- ann goes to cy and hr to it
+pub two_departments-glav : verdict Glav two_departments ≡ refuted 0 1 ((Const 0, Const 4) ∷ (Const 1, Const 3) ∷ [])
+two_departments-glav = refl
+
+-- R(a,b) and R(b,a) with T(a)
+abbrev pub symmetric : List DataExample
+symmetric = record {
+  source = source_fact (Const 0 ∷ Const 1 ∷ []) ∷ source_fact (Const 1 ∷ Const 0 ∷ []) ∷ [];
+  target = target_fact (Const 0 ∷ []) ∷ [];
+} ∷ []
+
+pub symmetric-glav : verdict Glav symmetric ≡ refuted 0 0 ((Const 0, Const 1) ∷ (Const 1, Const 0) ∷ [])
+symmetric-glav = refl
+
+-- R(a) with T(zed)
+abbrev pub foreign_target : List DataExample
+foreign_target = record { source = source_fact (Const 0 ∷ []) ∷ []; target = target_fact (Const 1 ∷ []) ∷ [] } ∷ []
+
+pub foreign_target-glav : verdict Glav foreign_target ≡ foreign_at 0 (Const 1)
+foreign_target-glav = refl
+
+-- no source fact, with T(?n)
+abbrev pub empty_source : List DataExample
+empty_source = record { source = []; target = target_fact (Null 0 ∷ []) ∷ [] } ∷ []
+
+-- true -> exists y1 . T(y1)
+pub empty_source-glav : verdict Glav empty_source ≡ fits (record { premise = []; exists = 1 ∷ []; conclusion = target_atom (Var 1 ∷ []) ∷ [] } ∷ [])
+empty_source-glav = refl
+
+pub empty_source-gav : verdict Gav empty_source ≡ no_fold_at 0
+empty_source-gav = refl
+
+-- R(a) with T(a) and T(?n)
+abbrev pub spare_null : List DataExample
+spare_null =
+    record { source = source_fact (Const 0 ∷ []) ∷ []; target = target_fact (Const 0 ∷ []) ∷ target_fact (Null 1 ∷ []) ∷ [] } ∷ []
+
+-- R(x1) -> exists y1 . T(x1) & T(y1)
+pub spare_null-glav : verdict Glav spare_null ≡ fits (record {
+  premise = source_atom (Var 1 ∷ []) ∷ [];
+  exists = 2 ∷ [];
+  conclusion = target_atom (Var 1 ∷ []) ∷ target_atom (Var 2 ∷ []) ∷ [];
+} ∷ [])
+spare_null-glav = refl
+
+-- R(x1) -> T(x1)
+pub spare_null-gav : verdict Gav spare_null ≡ fits (record {
+  premise = source_atom (Var 1 ∷ []) ∷ [];
+  exists = [];
+  conclusion = target_atom (Var 1 ∷ []) ∷ [];
+} ∷ [])
+spare_null-gav = refl
+
+-- R(a) with nothing; R(b) with T(b)
+abbrev pub missing_target : List DataExample
+missing_target =
+    record { source = source_fact (Const 0 ∷ []) ∷ []; target = [] }
+    ∷ record { source = source_fact (Const 1 ∷ []) ∷ []; target = target_fact (Const 1 ∷ []) ∷ [] } ∷ []
+
+pub missing_target-glav : verdict Glav missing_target ≡ refuted 1 0 ((Const 1, Const 0) ∷ [])
+missing_target-glav = refl
+
+abbrev pub edge : ℕ → ℕ → Fact
+edge a b = source_fact (Const a ∷ Const b ∷ [])
+
+abbrev pub six_cycle : List Fact
+six_cycle = edge 1 2 ∷ edge 2 3 ∷ edge 3 4 ∷ edge 4 5 ∷ edge 5 6 ∷ edge 6 1 ∷ []
+
+-- six candidates for the first fact, and six for each fact after it on each of six partial matches
+pub six_cycle-need : need six_cycle six_cycle [] ≡ 186
+six_cycle-need = refl
