@@ -2,3 +2,8 @@ pub mod ListLaws
 pub mod MapLaws
 pub mod InstanceLaws
 pub mod HomLaws
+pub mod OrderLaws
+pub mod BindLaws
+pub mod PlanLaws
+pub mod SearchLaws
+pub mod VerdictLaws

@@ -1,14 +1,16 @@
--- Laws of maps as lists of pairs.
-use Rattle.std.proofs.Common.{◌≡◌, ℕ, zero, suc, ◌+◌, ◌<◌, ◌≤◌, Bool, true, false, cond, Some, None, get_or, take, drop, set, map, length, Vec, vec_len, arith, ◌∙◌, inl, inr, List, [], ◌∷◌, ◌++◌, refl, sym, ap, subst}
+-- Laws of maps as lists of pairs. The points are what a look-up gives after a put (`get-append`), that a put and a set keep
+-- first members distinct (`IsDistinct-after_put`, `IsDistinct-after_set`), and that a map is the pairs of what it names
+-- with its images (`graph-domain_of`).
+use Rattle.std.proofs.Common.{◌≡◌, ℕ, zero, suc, ◌+◌, ◌<◌, Bool, false, cond, Some, None, get_or, take, drop, set, map, length, Vec, vec_len, arith, ◌∙◌, inl, inr, List, [], ◌∷◌, ◌++◌, refl, sym, ap, ap₂, subst}
 use Rattle.std.specs.Vec.{with_items}
 use Rattle.std.proofs.lemmas.List.{map-append, with_items_is}
-use Rattle.eir_term.specs.declared.val.Val.{Val}
-use Rattle.eir_term.specs.Lists.{◌∈◌, IsDistinct}
 use Rattle.std.proofs.lemmas.Bool.{cases_Bool}
 use Rattle.std.proofs.lemmas.Option.{none-some}
+use Rattle.eir_term.specs.declared.val.Val.{Val}
+use Rattle.eir_term.specs.Lists.{◌∈◌, IsDistinct}
 use Rattle.eir_term.specs.Values.{val_eq, val_eq-decides}
-use Rattle.eir_term.specs.Maps.{domain_of, get, with_image}
-use Rattle.eir_term.proofs.ListLaws.{IsDistinct-push}
+use Rattle.eir_term.specs.Maps.{domain_of, get, with_image, graph}
+use Rattle.eir_term.proofs.ListLaws.{IsDistinct-push, apart-false, false-apart}
 
 pub IsDistinct-put : (h : List (Val × Val)) (v w : Val) → IsDistinct (domain_of h) → (v ∈ domain_of h → ⊥) → IsDistinct (domain_of (h ++ (v, w) ∷ []))
 IsDistinct-put h v w d n = subst (λ vs. IsDistinct vs) (sym (map-append (λ (p : Val × Val). p.0) h ((v, w) ∷ []))) (IsDistinct-push (domain_of h) v d n)
@@ -16,26 +18,6 @@ IsDistinct-put h v w d n = subst (λ vs. IsDistinct vs) (sym (map-append (λ (p 
 -- a pair was put at the end of what the owner sees as old
 pub IsDistinct-after_put : (old inside new : List (Val × Val)) (v w : Val) → inside ≡ old → IsDistinct (domain_of inside) → (v ∈ domain_of old → ⊥) → new ≡ inside ++ (v, w) ∷ [] → IsDistinct (domain_of new)
 IsDistinct-after_put old inside new v w seen d n e = subst (λ h. IsDistinct (domain_of h)) (sym e) (IsDistinct-put inside v w d (λ k. n (subst (λ h. v ∈ domain_of h) seen k)))
-
--- a look-up that goes over the list by places
-pub get-passed : (m : List (Val × Val)) (i : ℕ) (v : Val) (d : Val × Val) → i < length m → val_eq (get_or m i d).0 v ≡ false → get (drop i m) v ≡ get (drop (i + 1) m) v
-get-passed m i v d l e = step m i l e ∙ ap (λ k. get (drop k m) v) (let q : suc i ≡ i + 1 = omega arith in q)
-  where
-    step : (m : List (Val × Val)) (i : ℕ) → i < length m → val_eq (get_or m i d).0 v ≡ false → get (drop i m) v ≡ get (drop (suc i) m) v
-    step [] i l e = absurd (omega arith)
-    step (p ∷ m) zero l e = rw e
-    step (p ∷ m) (suc i) l e = step m i (omega arith) e
-
-pub get-found : (m : List (Val × Val)) (i : ℕ) (v : Val) (d : Val × Val) → i < length m → val_eq (get_or m i d).0 v ≡ true → get (drop i m) v ≡ Some (get_or m i d).1
-get-found [] i v d l e = absurd (omega arith)
-get-found (p ∷ m) zero v d l e = rw e
-get-found (p ∷ m) (suc i) v d l e = get-found m i v d (omega arith) e
-
-pub get-none : (m : List (Val × Val)) (i : ℕ) (v : Val) → length m ≤ i → get (drop i m) v ≡ None
-get-none [] zero v l = refl
-get-none [] (suc i) v l = refl
-get-none (p ∷ m) zero v l = absurd (omega arith)
-get-none (p ∷ m) (suc i) v l = get-none m i v (omega arith)
 
 -- a value with no image is no first member
 pub absent-from_get : (m : List (Val × Val)) (v : Val) → get m v ≡ None → v ∈ domain_of m → ⊥
@@ -73,3 +55,40 @@ pub IsDistinct-after_set : {Z : Type 0} (inside : Vec (Val × Val) Z) (lent new 
 IsDistinct-after_set inside lent new v w seen long same d e =
     subst (λ h. IsDistinct (domain_of h)) (sym (with_items_is inside new (same ∙ long)))
     (subst (λ vs. IsDistinct vs) (sym (ap domain_of e ∙ domain_of-with_image lent v w ∙ ap domain_of seen)) d)
+
+-- what a map names has an image
+pub get-domain_of : (m : List (Val × Val)) (v : Val) → v ∈ domain_of m → (w : Val) × (get m v ≡ Some w)
+get-domain_of [] v h = elim h [ ]
+get-domain_of (p ∷ m) v (inl e) = (p.1, rw ((val_eq-decides p.0 v).1 (sym e)))
+get-domain_of (p ∷ m) v (inr h) = elim (cases_Bool (val_eq p.0 v)) [ inl t ↦ (p.1, rw t) | inr t ↦ (let r = get-domain_of m v h in (r.0, rw t r.1)) ]
+
+-- what has an image is named
+pub ∈-domain_of : (m : List (Val × Val)) (v w : Val) → get m v ≡ Some w → v ∈ domain_of m
+∈-domain_of [] v w e = absurd (none-some w e)
+∈-domain_of (p ∷ m) v w e = elim (cases_Bool (val_eq p.0 v))
+    [ inl t ↦ inl (sym ((val_eq-decides p.0 v).0 t)) | inr t ↦ (let k : get m v ≡ Some w = sym (rw t) ∙ e in inr (∈-domain_of m v w k)) ]
+
+-- a look-up after a pair of a new value was put last
+pub get-append : (m : List (Val × Val)) (v w u : Val) → get m v ≡ None → get (m ++ (v, w) ∷ []) u ≡ cond (val_eq v u) (Some w) (get m u)
+get-append [] v w u e = refl
+get-append (p ∷ m) v w u e = elim (cases_Bool (val_eq p.0 v)) [
+  | inl t ↦ absurd (none-some p.1 (sym e ∙ rw t))
+  | inr t ↦ elim (cases_Bool (val_eq p.0 u)) [
+    | inl s ↦ (let ne : val_eq v u ≡ false = apart-false val_eq val_eq-decides v u (λ q. false-apart val_eq val_eq-decides p.0 v t ((val_eq-decides p.0 u).0 s ∙ sym q)) in rw (s, ne))
+    | inr s ↦ (let rest : get m v ≡ None = sym (rw t) ∙ e in rw s (get-append m v w u rest))
+  ]
+]
+
+-- the new value's own image
+pub get-append_same : (m : List (Val × Val)) (v w : Val) → get m v ≡ None → get (m ++ (v, w) ∷ []) v ≡ Some w
+get-append_same m v w e = get-append m v w v e ∙ rw ((val_eq-decides v v).1 refl)
+
+-- the pairs of what a map names with what any function that follows it makes of that are the map
+pub graph-domain_of : (g : Val → Val) (h : List (Val × Val)) → IsDistinct (domain_of h) → ((v w : Val) → get h v ≡ Some w → g v ≡ w) → graph g (domain_of h) ≡ h
+graph-domain_of g [] d follows = refl
+graph-domain_of g (p ∷ h) d follows =
+    let first : (p.0, g p.0) ≡ p = ap (λ w. (p.0, w)) (follows p.0 p.1 (rw ((val_eq-decides p.0 p.0).1 refl))) in
+    ap₂ (λ q qs. q ∷ qs) first (graph-domain_of g h d.1 (λ v w e. follows v w (later v w e)))
+  where
+    later : (v w : Val) → get h v ≡ Some w → get (p ∷ h) v ≡ Some w
+    later v w e = rw (apart-false val_eq val_eq-decides p.0 v (λ q. d.0 (subst (λ u. u ∈ domain_of h) (sym q) (∈-domain_of h v w e)))) e

@@ -16,5 +16,6 @@ pub mod Canonical
 pub mod Bind
 pub mod Plans
 pub mod Search
+pub mod Order
 pub mod Verdicts
 pub mod Rows

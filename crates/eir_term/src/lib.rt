@@ -3,7 +3,7 @@
 //!
 //! The types are plain data. What is believed stands in `specs/`, in this order of reading: `Lists`, `Values`,
 //! `Facts`, `Instances`, `Maps`, `Homs`, `Dependencies`, `Satisfaction`, `Universal`, `Fitting`, `Implication`,
-//! `Extension`, `Faults`, `Canonical`, `Bind`, `Plans`, `Search`, `Verdicts`; `Rows` computes them on worked
+//! `Extension`, `Faults`, `Canonical`, `Bind`, `Plans`, `Search`, `Order`, `Verdicts`; `Rows` computes them on worked
 //! examples. `docs/definitions.md` has them in prose.
 //!
 //! # What a contract sees
@@ -18,6 +18,8 @@ mod fact;
 mod map;
 mod memory;
 mod term;
+#[cfg(test)]
+mod tests;
 mod text;
 mod val;
 

@@ -16,6 +16,10 @@ pub enum Term {
 }
 
 impl Default for Term {
+    ghost use Rattle.eir_term.specs.declared.term.Term.TheVariants.{Fixed};
+
+    ghost is_default = { λ t. t ≡ Fixed 0 };
+
     fn default() -> Self {
         Term::Fixed(0)
     }

@@ -40,6 +40,10 @@ impl Val {
 }
 
 impl Default for Val {
+    ghost use Rattle.eir_term.specs.declared.val.Val.TheVariants.{Const};
+
+    ghost is_default = { λ v. v ≡ Const 0 };
+
     fn default() -> Self {
         Val::Const(0)
     }
