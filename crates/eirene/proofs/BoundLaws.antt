@@ -1,5 +1,5 @@
 -- A bounded example needs few variables: an instance of 512 facts with at most 16 values each has at most 8,192 values.
-use Rattle.std.proofs.Common.{◌≡◌, ℕ, ◌+◌, ◌*◌, ◌≤◌, Bool, List, [], ◌∷◌, ◌++◌, filter, length, inl, inr, refl, arith}
+use Rattle.std.proofs.Common.{◌≡◌, ◌+◌, ◌*◌, ◌≤◌, Bool, List, [], ◌∷◌, ◌++◌, filter, length, inl, inr, refl, arith}
 use Rattle.std.proofs.lemmas.Bool.{cases_Bool}
 use Rattle.std.proofs.lemmas.List.{length-append}
 use Rattle.std.proofs.lemmas.List.Sums.{length-filter, count_by-le-length}
@@ -34,19 +34,19 @@ length-occurrences-le (f ∷ fs) small =
     omega arith
 
 -- the values of a bounded instance
-length-values-le : (n : ℕ) (K : List Fact) → n ≤ 512 → IsBounded n K → length (values K) ≤ 8192
-length-values-le n K most bounded =
+length-values-le : (K : List Fact) → IsBounded K → length (values K) ≤ 8192
+length-values-le K bounded =
     let l = length-distinct-le val_eq (occurrences K) in
     let k = length-occurrences-le K (λ f h. (bounded.small f h).1) in
     let few = bounded.few in
     omega arith
 
 -- a bounded example needs few variables
-pub FewVariables-from_bounded : (x : NamedExample) → IsBounded 1 x.source → IsBounded 512 x.target → FewVariables (data_example x)
+pub FewVariables-from_bounded : (x : NamedExample) → IsBounded x.source → IsBounded x.target → FewVariables (data_example x)
 FewVariables-from_bounded x source target =
     let a : length (consts x.source) ≤ length (values x.source) = length-filter-le is_const (values x.source) in
     let b : length (nulls x.target) ≤ length (values x.target) = length-filter-le is_null (values x.target) in
-    let k = length-values-le 1 x.source (omega arith) source in
-    let l = length-values-le 512 x.target (omega arith) target in
+    let k = length-values-le x.source source in
+    let l = length-values-le x.target target in
     let e : length (consts x.source ++ nulls x.target) ≡ length (consts x.source) + length (nulls x.target) = length-append (consts x.source) (nulls x.target) in
     omega arith

@@ -9,7 +9,6 @@ pub mod ItemLaws
 pub mod KeptLaws
 pub mod KnownLaws
 pub mod LineLaws
-pub mod LoneLaws
 pub mod MappingLaws
 pub mod NameLaws
 pub mod PlaceLaws

@@ -14,8 +14,8 @@ use Rattle.eirene.proofs.ItemLaws.{take-at}
 -- what is told of the example at a place by the bounds on all
 pub record IsBoundedAt (e : DataExample) : Type 0 where
   pub few : FewVariables e
-  pub source : IsBounded 1 e.source
-  pub target : IsBounded 512 e.target
+  pub source : IsBounded e.source
+  pub target : IsBounded e.target
 
 pub IsBoundedAt-place : (xs : List NamedExample) (i : ℕ) (e : DataExample) → AreBounded xs → slice_get (map data_example xs) i ≡ Some e → IsBoundedAt e
 IsBoundedAt-place [] i e b h = absurd (none-some e h)

@@ -1,9 +1,19 @@
 -- The first of a list that is found, by a loop over its places.
-use Rattle.std.proofs.Common.{◌≡◌, ℕ, suc, ◌+◌, ◌<◌, ◌≤◌, Bool, Option, Some, None, List, [], ◌∷◌, filter, find, length, get_or, drop, slice_get, refl, sym, ◌∙◌, ap, inl, inr, drop-cons, arith}
-use Rattle.std.proofs.lemmas.List.{drop_all}
-use Rattle.std.proofs.lemmas.Bool.{cases_Bool}
+use Rattle.std.proofs.Common.{◌≡◌, ℕ, suc, ◌+◌, ◌<◌, ◌≤◌, Bool, true, false, Option, Some, None, unwrap_or, List, [], ◌∷◌, ◌++◌, filter, find, length, get_or, take, drop, slice_get, refl, sym, ◌∙◌, ap, ap₂, inl, inr, drop-cons, arith}
+use Rattle.std.proofs.lemmas.List.{drop_all, map_more}
+use Rattle.std.proofs.lemmas.Bool.{cases_Bool, false≢true}
 use Rattle.std.proofs.lemmas.Option.{none-some}
+use Rattle.eir_term.specs.declared.val.Val.{Val}
+use Rattle.eir_term.specs.declared.val.Val.TheVariants.{Fixed}
+use Rattle.eir_term.specs.declared.fact.Fact.{Fact}
+use Rattle.eir_term.specs.Values.{is_const}
+use Rattle.eir_term.specs.Instances.{values, consts}
+use Rattle.eir_term.specs.Maps.{get, image, graph}
+use Rattle.eir_term.specs.Search.{homs}
+use Rattle.eir_term.specs.Order.{KeepsFixed}
 use Rattle.eir_term.specs.Verdicts.{Finding, or_else, first_finding}
+use Rattle.eir_term.proofs.ListLaws.{∈-filter_from}
+use Rattle.eir_term.proofs.HomLaws.{image-graph_none}
 use Rattle.eirene.proofs.ItemLaws.{drop-at}
 
 -- what is not something is nothing
@@ -14,6 +24,18 @@ none-from (Some x) apart = absurd (apart x refl)
 -- ---- the first element that passes
 
 module _ {X : Type 0} (p : X → Bool) where
+  -- one that fails is passed over
+  pub find-passed : (xs : List X) (i : ℕ) (d : X) → i < length xs → p (get_or xs i d) ≡ false → find p (drop (i + 1) xs) ≡ find p (drop i xs)
+  find-passed xs i d l t = ap (λ k. find p (drop k xs)) (let q : i + 1 ≡ suc i = omega arith in q) ∙ sym (ap (λ ys. find p ys) (drop-cons xs i d l) ∙ rw t)
+
+  -- one that passes is found
+  pub find-found : (xs : List X) (i : ℕ) (d : X) → i < length xs → p (get_or xs i d) ≡ true → find p (drop i xs) ≡ Some (get_or xs i d)
+  find-found xs i d l t = ap (λ ys. find p ys) (drop-cons xs i d l) ∙ rw t
+
+  -- past the end there is none
+  pub find-end : (xs : List X) (i : ℕ) → length xs ≤ i → find p (drop i xs) ≡ None
+  find-end xs i l = ap (λ ys. find p ys) (drop_all i xs l)
+
   -- of a list and one element before it
   pub find-filter_none : (q : X → Bool) (x : X) (xs : List X) → find p (filter q (x ∷ [])) ≡ None → find p (filter q (x ∷ xs)) ≡ find p (filter q xs)
   find-filter_none q x xs e = elim (cases_Bool (q x)) [
@@ -51,3 +73,19 @@ module _ {X : Type 0} (test : ℕ → X → Option Finding) where
   -- past the end there is nothing
   pub first_finding-end : (xs : List X) (i : ℕ) → length xs ≤ i → first_finding test i (drop i xs) ≡ None
   first_finding-end xs i l = ap (λ ys. first_finding test i ys) (drop_all i xs l)
+
+-- ---- the start of a search between targets
+
+-- the start names constants alone, so it moves no fixed constant
+pub KeepsFixed-start : (h start : List (Val × Val)) (K : List Fact) → start ≡ graph (image h) (consts K) → KeepsFixed start
+KeepsFixed-start h start K e n = ap (λ m. image m (Fixed n)) e ∙ image-graph_none (image h) (Fixed n) (consts K) (λ i. absurd (false≢true (∈-filter_from is_const (Fixed n) (values K) i).1))
+
+-- a list of homomorphisms between instances that are seen as these
+pub listed-homs : (A B K L : List Fact) (items hs : List (List (Val × Val))) (start : List (Val × Val)) → items ≡ hs → hs ≡ homs K L start → K ≡ A → L ≡ B → start ≡ [] → items ≡ homs A B []
+listed-homs A B K L items hs start e h k l s = e ∙ h ∙ ap₂ (λ K L. homs K L start) k l ∙ ap (λ m. homs A B m) s
+
+-- the graph on one value more
+pub graph-more : (h : List (Val × Val)) (vs : List Val) (i : ℕ) (d w : Val) (got : Option Val) (old new : List (Val × Val)) → i < length vs → old ≡ graph (image h) (take i vs) →
+    got ≡ get h (get_or vs i d) → w ≡ unwrap_or got (get_or vs i d) → new ≡ old ++ (get_or vs i d, w) ∷ [] → new ≡ graph (image h) (take (i + 1) vs)
+graph-more h vs i d w got old new l e g f n =
+    n ∙ ap₂ (λ m u. m ++ (get_or vs i d, u) ∷ []) e (f ∙ ap (λ o. unwrap_or o (get_or vs i d)) g) ∙ sym (map_more (λ v. (v, image h v)) vs i d l)

@@ -1,9 +1,8 @@
 -- The limits of a workspace, as what holds of its examples (this project's own).
 --   IsSmallFact f    == 1 to 16 values
---   IsBounded n K    == at most n facts, each with 1 to 16 values
---   AreBounded xs    == each source has at most one fact and each target at most 512, each with 1 to 16 values
+--   AreBounded xs    == each instance has at most 512 facts, each with 1 to 16 values
 --   FewVariables e   == the canonical mapping needs fewer than 2^32 - 1 variables
-use Rattle.std.specs.Prelude.{ℕ, ◌≤◌, ◌<◌, List, length}
+use Rattle.std.specs.Prelude.{◌≤◌, ◌<◌, List, length}
 use Rattle.eir_term.specs.declared.fact.Fact.{Fact}
 use Rattle.eir_term.specs.Lists.{◌∈◌}
 use Rattle.eir_term.specs.Fitting.{DataExample}
@@ -14,14 +13,14 @@ use Rattle.eirene.specs.Workspaces.{NamedExample}
 abbrev pub IsSmallFact : Fact → Type 0
 IsSmallFact f = (1 ≤ length f.args) × (length f.args ≤ 16)
 
--- at most n facts, each with 1 to 16 values
-pub record IsBounded (n : ℕ) (K : List Fact) : Type 0 where
-  pub few : length K ≤ n
+-- at most 512 facts, each with 1 to 16 values
+pub record IsBounded (K : List Fact) : Type 0 where
+  pub few : length K ≤ 512
   pub small : (f : Fact) → f ∈ K → IsSmallFact f
 
--- each source has at most one fact, each target at most 512
+-- each instance is bounded
 abbrev pub AreBounded : List NamedExample → Type 0
-AreBounded xs = (x : NamedExample) → x ∈ xs → IsBounded 1 x.source × IsBounded 512 x.target
+AreBounded xs = (x : NamedExample) → x ∈ xs → IsBounded x.source × IsBounded x.target
 
 -- variables are numbered by 32 bits
 abbrev pub FewVariables : DataExample → Type 0

@@ -4,8 +4,8 @@
 --   with_last f i        == the instance with a fact more
 --   instance_on side s   == the instance of a side
 --   grown side f s       == the instances with a fact more on a side
---   side_tests n f fs    == the refusals of a fact for a side with these facts, which may have n of them
---   AreKept es           == at most one example, bounded, and each instance may have as many facts as its side
+--   side_tests f fs      == the refusals of a fact for a side with these facts
+--   AreKept es           == at most 64 examples, bounded, and each instance may have 512 facts
 use Rattle.std.specs.Prelude.{◌≡◌, ℕ, ◌≤◌, nat_le, Bool, List, [], ◌∷◌, ◌++◌, map, length}
 use Rattle.std.specs.Global.{Vec}
 use Rattle.std.specs.List.{list_any}
@@ -33,9 +33,9 @@ examples_of es = map (λ e. example_with e.0.items e.1) es
 abbrev pub with_last : Fact → BoundedFacts → BoundedFacts
 with_last f i = record i { facts = i.facts ++ f ∷ [] }
 
--- two instances with no fact: the source may have one of them, the target 512
+-- two instances with no fact that may have 512 of them
 abbrev pub empty_sides : Sides
-empty_sides = record { source = record { facts = []; limit = 1 }; target = record { facts = []; limit = 512 } }
+empty_sides = record { source = record { facts = []; limit = 512 }; target = record { facts = []; limit = 512 } }
 
 -- the instance of a side
 abbrev pub instance_on : Side → Sides → BoundedFacts
@@ -47,16 +47,16 @@ abbrev pub grown : Side → Fact → Sides → Sides
 grown Source f s = record s { source = with_last f s.source }
 grown Target f s = record s { target = with_last f s.target }
 
--- of a fact for a side with these facts, which may have n of them: the fact is there, the side is full
-abbrev pub side_tests : ℕ → Fact → List Fact → List (Bool × Cause)
-side_tests n f fs = (list_any (fact_eq f) fs, There) ∷ (nat_le n (length fs), Full n) ∷ []
+-- of a fact for a side with these facts: the fact is there, the side is full
+abbrev pub side_tests : Fact → List Fact → List (Bool × Cause)
+side_tests f fs = (list_any (fact_eq f) fs, There) ∷ (nat_le 512 (length fs), Full 512) ∷ []
 
--- each source may have one fact, each target 512
+-- each instance may have 512 facts
 abbrev pub HaveRoom : List (Vec ℕ × Sides) → Type 0
-HaveRoom es = (e : Vec ℕ × Sides) → e ∈ es → (e.1.source.limit ≡ 1) × (e.1.target.limit ≡ 512)
+HaveRoom es = (e : Vec ℕ × Sides) → e ∈ es → (e.1.source.limit ≡ 512) × (e.1.target.limit ≡ 512)
 
--- at most one example, bounded, and each instance may have as many facts as its side
+-- at most 64 examples, bounded, and each instance may have 512 facts
 pub record AreKept (es : List (Vec ℕ × Sides)) : Type 0 where
-  pub few : length es ≤ 1
+  pub few : length es ≤ 64
   pub limited : HaveRoom es
   pub bounded : AreBounded (examples_of es)

@@ -19,6 +19,10 @@ one_employee : output_of (codes "source Emp(name,dept)\ntarget Works(name,room)\
 unfolding digits
 one_employee = refl
 
+symmetric : output_of (codes "source R(a,b)\ntarget T(a)\nnew e1\nput e1 R(a,b)\nput e1 R(b,a)\nput e1 T(a)\nfit\n")
+    ≡ codes "ok\nok\nok\nok\nok\nok\nrefuted e1 e1 a->b b->a\n"
+symmetric = refl
+
 foreign_target : output_of (codes "source R(a)\ntarget T(a)\nnew e1\nput e1 R(a)\nput e1 T(zed)\nfit\n") ≡ codes "ok\nok\nok\nok\nok\ndomain e1 zed\n"
 foreign_target = refl
 
@@ -26,9 +30,9 @@ empty_source : output_of (codes "target T(a)\nnew e1\nput e1 T(?n)\nfit\n") ≡ 
 unfolding digits
 empty_source = refl
 
--- a second example and a second source fact are refused
-limits : output_of (codes "source R(a)\nnew e1\nnew e2\nput e1 R(a)\nput e1 R(b)\n") ≡ codes "ok\nok\nrefused 1 line\nok\nrefused 1 line\n"
-limits = refl
+missing_target : output_of (codes "source R(a)\ntarget T(a)\nnew e1\nput e1 R(a)\nnew e2\nput e2 R(b)\nput e2 T(b)\nfit\n")
+    ≡ codes "ok\nok\nok\nok\nok\nok\nok\nrefuted e2 e1 b->a\n"
+missing_target = refl
 
 -- refused lines: a space too many, an unknown relation, another arity, a null in a source, no example, a fact that is
 -- there, a name that is taken, no form

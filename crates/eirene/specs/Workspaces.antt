@@ -1,10 +1,9 @@
 -- The state of a workspace as a fold of requests: each is refused by the first test that holds, or done
--- (this project's own). The first version serves one example with at most one source fact.
+-- (this project's own).
 --   Workspace        == the table of names, the schema, and the examples in order
 --   tests r w        == the refusals of a request, in the order in which they are tested
 --   refusal r w      == the first cause that holds, if any
 --   after r w        == the workspace after the request; a refused one leaves it
---   fact_limit side  == the most facts of an instance
 use Rattle.std.specs.Prelude.{ℕ, Bool, true, false, not, ◌||◌, ◌==◌, cond, List, [], ◌∷◌, ◌++◌, map, length, nat_le, Option, Some, None, is_some}
 use Rattle.std.specs.List.{list_any}
 use Rattle.std.specs.Str.{bytes_eq}
@@ -81,19 +80,14 @@ declaration_tests side r columns s =
     ∷ (nat_le 17 (length columns), Full 16)
     ∷ (nat_le 64 (length (relations side s)), Full 64) ∷ []
 
--- of a new example: an example has the name, there is one already
+-- of a new example: an example has the name, too many examples
 abbrev pub new_tests : List ℕ → List NamedExample → List (Bool × Cause)
-new_tests e xs = (is_some (find_example xs e), Taken) ∷ (nat_le 1 (length xs), Full 1) ∷ []
-
--- the most facts of an instance on the side
-abbrev pub fact_limit : Side → ℕ
-fact_limit Source = 1
-fact_limit Target = 512
+new_tests e xs = (is_some (find_example xs e), Taken) ∷ (nat_le 64 (length xs), Full 64) ∷ []
 
 -- of a fact for an example that was looked for: there is none, the fact is there, the side is full
 abbrev pub entry_tests : Side → Fact → Option NamedExample → List (Bool × Cause)
 entry_tests side f None = (true, NoExample) ∷ []
-entry_tests side f (Some x) = (list_any (fact_eq f) (facts_on side x), There) ∷ (nat_le (fact_limit side) (length (facts_on side x)), Full (fact_limit side)) ∷ []
+entry_tests side f (Some x) = (list_any (fact_eq f) (facts_on side x), There) ∷ (nat_le 512 (length (facts_on side x)), Full 512) ∷ []
 
 -- whether the relation is of the source and a value is a null
 abbrev pub is_null_in_source : Side → List Val → Bool

@@ -1,4 +1,4 @@
-//! The present examples. At present there is one at most, with one source fact at most.
+//! The present examples.
 ghost use Rattle.std.specs.Prelude.{◌≡◌, ◌≤◌, [], None, IfErr, OnOk, OnErr, length, option_map, slice_get};
 ghost use Rattle.eirene.specs.Workspaces.{entry_tests, find_example, first_cause, new_tests};
 ghost use Rattle.eirene.specs.Workspaces.{with_example, with_fact};
@@ -14,13 +14,10 @@ use std::alloc::Global;
 use std::marker::Model;
 
 /// The most examples.
-const EXAMPLE_LIMIT: usize = 1;
+const EXAMPLE_LIMIT: usize = 64;
 
-/// The most facts of a source.
-const SOURCE_LIMIT: u64 = 1;
-
-/// The most facts of a target.
-const TARGET_LIMIT: u64 = 512;
+/// The most facts of an instance.
+const FACT_LIMIT: u64 = 512;
 
 /// The two instances of an example.
 #[derive(Drop)]
@@ -63,7 +60,7 @@ impl Examples {
     /// The number of examples.
     pub fn len(&self) -> usize
         ensures exact { result ≡ length self.now }
-        ensures few { length self.now ≤ 1 }
+        ensures few { length self.now ≤ 64 }
         ensures bounded { AreBounded self.now }
     {
         self.sides.len()
@@ -139,19 +136,19 @@ impl Sides {
         ensures { result ≡ empty_sides }
     {
         Sides {
-            source: Instance::new(alloc, SOURCE_LIMIT),
-            target: Instance::new(alloc, TARGET_LIMIT),
+            source: Instance::new(alloc, FACT_LIMIT),
+            target: Instance::new(alloc, FACT_LIMIT),
         }
     }
 
-    /// Puts a fact into the instance of a side.
+    /// Puts a fact into the instance of a side, which may have 512 of them.
     fn put(&mut self, side: Side, fact: Fact) -> Result<(), Refusal>
-        requires { length (instance_on side self.old).facts ≤ (instance_on side self.old).limit }
-        ensures ok { let old = instance_on side self.old in
-            OnOk result ((first_cause (side_tests old.limit fact old.facts) ≡ None)
+        requires limited { (instance_on side self.old).limit ≡ 512 }
+        requires few { length (instance_on side self.old).facts ≤ 512 }
+        ensures ok { OnOk result ((first_cause (side_tests fact (instance_on side self.old).facts) ≡ None)
             × (self.new ≡ grown side fact self.old)) }
-        ensures caused { let old = instance_on side self.old in
-            IfErr result (λ e. IsCaused e (first_cause (side_tests old.limit fact old.facts))) }
+        ensures caused { IfErr result
+            (λ e. IsCaused e (first_cause (side_tests fact (instance_on side self.old).facts))) }
         ensures err { OnErr result (self.new ≡ self.old) }
     {
         match side {
@@ -161,13 +158,13 @@ impl Sides {
     }
 }
 
-/// Puts a fact into an instance.
+/// Puts a fact into an instance that may have 512 of them.
 fn insert(instance: &mut Instance, fact: Fact) -> Result<(), Refusal>
-    requires { length instance.old.facts ≤ instance.old.limit }
-    ensures ok { OnOk result ((first_cause (side_tests instance.old.limit fact instance.old.facts) ≡ None)
+    requires limited { instance.old.limit ≡ 512 }
+    requires few { length instance.old.facts ≤ 512 }
+    ensures ok { OnOk result ((first_cause (side_tests fact instance.old.facts) ≡ None)
         × (instance.new ≡ with_last fact instance.old)) }
-    ensures caused { IfErr result
-        (λ e. IsCaused e (first_cause (side_tests instance.old.limit fact instance.old.facts))) }
+    ensures caused { IfErr result (λ e. IsCaused e (first_cause (side_tests fact instance.old.facts))) }
     ensures err { OnErr result (instance.new ≡ instance.old) }
 {
     match instance.insert(fact) {

@@ -1,6 +1,5 @@
 //! The program `eirene`: it reads lines that declare two schemas and edit data examples, and prints the most
-//! general GLAV mapping for which every target is a universal solution of its source, or shows why none is. At present
-//! it takes one example with one source fact; more are refused.
+//! general GLAV mapping for which every target is a universal solution of its source, or shows why none is.
 //!
 //! `top` has the one call, `run`; every other module holds one concept behind a contract of its own, so that it can
 //! become a crate. `main` makes the real streams, calls `run`, prints the text of its status, and has nothing else.

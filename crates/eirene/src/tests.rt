@@ -17,6 +17,13 @@ put e1 Works(ann,?b)\nfit\n";
 const ONE_EMPLOYEE_REPLIES: &str =
     "ok\nok\nok\nok\nok\nfits glav 1\nEmp(x1,x2) -> exists y1 . Works(x1,y1)\n";
 
+/// The second example has a target fact that the first lacks.
+const MISSING_TARGET: &str =
+    "source R(a)\ntarget T(a)\nnew e1\nput e1 R(a)\nnew e2\nput e2 R(b)\nput e2 T(b)\nfit\n";
+
+/// What it is answered.
+const MISSING_TARGET_REPLIES: &str = "ok\nok\nok\nok\nok\nok\nok\nrefuted e2 e1 b->a\n";
+
 /// The words of a run.
 fn words(alloc: Global, texts: &[&str]) -> Result<Vec<String>, Fail> {
     let mut words = Vec::new(alloc);
@@ -63,6 +70,15 @@ fn scripts_are_answered(rt: HostRuntime) -> Result<(), Fail> {
         ("fit\n", "fits glav 0\n"),
         (ONE_EMPLOYEE, ONE_EMPLOYEE_REPLIES),
         (
+            "source Emp(name,dept)\ntarget Works(name,dept)\nnew e1\nput e1 Emp(ann,hr)\nput e1 Works(ann,hr)\n\
+new e2\nput e2 Emp(bob,it)\nput e2 Emp(cy,it)\nput e2 Works(bob,it)\nfit\n",
+            "ok\nok\nok\nok\nok\nok\nok\nok\nok\nrefuted e1 e2 ann->cy hr->it\n",
+        ),
+        (
+            "source R(a,b)\ntarget T(a)\nnew e1\nput e1 R(a,b)\nput e1 R(b,a)\nput e1 T(a)\nfit\n",
+            "ok\nok\nok\nok\nok\nok\nrefuted e1 e1 a->b b->a\n",
+        ),
+        (
             "source R(a)\ntarget T(a)\nnew e1\nput e1 R(a)\nput e1 T(zed)\nfit\n",
             "ok\nok\nok\nok\nok\ndomain e1 zed\n",
         ),
@@ -70,10 +86,7 @@ fn scripts_are_answered(rt: HostRuntime) -> Result<(), Fail> {
             "target T(a)\nnew e1\nput e1 T(?n)\nfit\n",
             "ok\nok\nok\nfits glav 1\ntrue -> exists y1 . T(y1)\n",
         ),
-        (
-            "source R(a)\nnew e1\nnew e2\nput e1 R(a)\nput e1 R(b)\n",
-            "ok\nok\nrefused 1 line\nok\nrefused 1 line\n",
-        ),
+        (MISSING_TARGET, MISSING_TARGET_REPLIES),
         (
             "\nfit \nfit",
             "refused 1 line\nrefused 1 line\nrefused 1 line\n",
@@ -126,14 +139,14 @@ fn pieces_do_not_matter(rt: HostRuntime) -> Result<(), Fail> {
 #[test]
 fn each_read_may_fail(rt: HostRuntime) -> Result<(), Fail> {
     for call in 1..100u64 {
-        let (status, written) = run_in_pieces(rt.alloc(), ONE_EMPLOYEE, 10, &[call], &[])?;
+        let (status, written) = run_in_pieces(rt.alloc(), MISSING_TARGET, 10, &[call], &[])?;
         if status == Status::Done {
-            assert_eq!(rt; written.as_slice(), ONE_EMPLOYEE_REPLIES.as_bytes());
+            assert_eq!(rt; written.as_slice(), MISSING_TARGET_REPLIES.as_bytes());
             return Ok(());
         }
         assert_eq!(rt; status, Status::ReadFault, "at {call}");
         assert!(rt;
-            ONE_EMPLOYEE_REPLIES.as_bytes().starts_with(&written),
+            MISSING_TARGET_REPLIES.as_bytes().starts_with(&written),
             "at {call}"
         );
     }
@@ -145,14 +158,14 @@ fn each_read_may_fail(rt: HostRuntime) -> Result<(), Fail> {
 #[test]
 fn each_write_may_fail(rt: HostRuntime) -> Result<(), Fail> {
     for call in 1..100u64 {
-        let (status, written) = run_in_pieces(rt.alloc(), ONE_EMPLOYEE, 1, &[], &[call])?;
+        let (status, written) = run_in_pieces(rt.alloc(), MISSING_TARGET, 1, &[], &[call])?;
         if status == Status::Done {
-            assert_eq!(rt; written.as_slice(), ONE_EMPLOYEE_REPLIES.as_bytes());
+            assert_eq!(rt; written.as_slice(), MISSING_TARGET_REPLIES.as_bytes());
             return Ok(());
         }
         assert_eq!(rt; status, Status::WriteFault, "at {call}");
         assert!(rt;
-            ONE_EMPLOYEE_REPLIES.as_bytes().starts_with(&written),
+            MISSING_TARGET_REPLIES.as_bytes().starts_with(&written),
             "at {call}"
         );
         assert_eq!(rt; written.len() as u64, call - 1, "at {call}");

@@ -1,44 +1,56 @@
 //! The verdict on the present examples.
 ghost use Rattle.std.specs.Prelude.{◌≡◌, IfOk, option_map, map};
 ghost use Rattle.eir_term.specs.declared.val.Kind.TheVariants.{Glav};
-ghost use Rattle.eir_term.specs.Verdicts.{or_else, domain_finding, refuted_finding, verdict};
+ghost use Rattle.eir_term.specs.Verdicts.{first_finding, first_refuting, refuted, domain_finding, refuted_finding, verdict};
 ghost use Rattle.eirene.specs.Findings.{finding_of};
 ghost use Rattle.eirene.specs.Workspaces.{data_example};
 
 mod foreign;
+mod refuting;
 
 use self::foreign::first_foreign;
+use self::refuting::first_refuting;
 use crate::canonical::{Dep, canonical_mapping};
 use crate::data_example::DataExample;
 use crate::examples::Examples;
-use eir_term::Memory;
+use eir_term::{Map, Memory};
 use std::alloc::Global;
 
 /// What a fit finds; places of examples count from 0.
 #[derive(Drop)]
 pub enum Verdict {
     /// The target of the example has a constant that its source lacks.
-    Domain { example: usize, constant: u64 },
+    Domain {
+        example: usize,
+        constant: u64,
+    },
+    /// A homomorphism between the sources extends to none between the targets.
+    Refuted {
+        first: usize,
+        second: usize,
+        map: Map,
+    },
     /// The canonical mapping fits.
     Fits(Vec<Dep>),
 }
 
-/// The first fault, else the canonical mapping.
+/// The first fault or refutation, else the canonical mapping.
 pub fn verdict_on(alloc: Global, examples: &Examples) -> Result<Verdict, Memory>
     ensures { IfOk result (λ v. finding_of v ≡ verdict Glav (map data_example examples.now)) }
 {
-    if let Some(found) = fault_finding(alloc, examples)? {
+    if let Some(found) = domain_finding(alloc, examples)? {
+        return Ok(found);
+    }
+    if let Some(found) = refuted_finding(alloc, examples)? {
         return Ok(found);
     }
     let mapping = canonical_mapping(alloc, examples)?;
     Ok(Verdict::Fits(mapping))
 }
 
-/// The first example with a foreign constant, and the first such constant. Nothing else rules a mapping out: there is
-/// one example at most, with one source fact at most, so a homomorphism of its source moves nothing, and extends.
-fn fault_finding(alloc: Global, examples: &Examples) -> Result<Option<Verdict>, Memory>
-    ensures { let present = map data_example examples.now in
-        IfOk result (λ o. option_map finding_of o ≡ or_else (domain_finding present) (refuted_finding present)) }
+/// The first example with a foreign constant, and the first such constant.
+fn domain_finding(alloc: Global, examples: &Examples) -> Result<Option<Verdict>, Memory>
+    ensures { IfOk result (λ o. option_map finding_of o ≡ domain_finding (map data_example examples.now)) }
 {
     for place in 0..examples.len() {
         let example = DataExample::at(examples, place);
@@ -46,6 +58,43 @@ fn fault_finding(alloc: Global, examples: &Examples) -> Result<Option<Verdict>, 
             return Ok(Some(Verdict::Domain {
                 example: place,
                 constant,
+            }));
+        }
+    }
+    Ok(None)
+}
+
+/// The first pair of examples with a refuting homomorphism, and the first such one. An example is paired with itself
+/// too.
+fn refuted_finding(alloc: Global, examples: &Examples) -> Result<Option<Verdict>, Memory>
+    ensures { IfOk result (λ o. option_map finding_of o ≡ refuted_finding (map data_example examples.now)) }
+{
+    for place in 0..examples.len() {
+        let first = DataExample::at(examples, place);
+        if let Some(found) = refuted_from(alloc, examples, place, &first)? {
+            return Ok(Some(found));
+        }
+    }
+    Ok(None)
+}
+
+/// The first refuting homomorphism from this example, which stands at this place.
+fn refuted_from(
+    alloc: Global,
+    examples: &Examples,
+    place: usize,
+    first: &DataExample,
+) -> Result<Option<Verdict>, Memory>
+    ensures { IfOk result (λ o. option_map finding_of o ≡
+        first_finding (λ j f. option_map (refuted place j) (first_refuting first.now f)) 0 (map data_example examples.now)) }
+{
+    for other in 0..examples.len() {
+        let second = DataExample::at(examples, other);
+        if let Some(map) = first_refuting(alloc, first, &second)? {
+            return Ok(Some(Verdict::Refuted {
+                first: place,
+                second: other,
+                map,
             }));
         }
     }

@@ -1,10 +1,11 @@
 //! The texts of verdicts.
-ghost use Rattle.std.specs.Prelude.{◌≡◌, ◌++◌, OnOk, map};
+ghost use Rattle.std.specs.Prelude.{◌≡◌, ◌++◌, ◌∷◌, OnOk, codes, flat_map, map};
 ghost use Rattle.eir_term.specs.declared.val.Val.TheVariants.{Const};
-ghost use Rattle.eir_term.specs.Verdicts.{foreign_at, fits};
+ghost use Rattle.eir_term.specs.Instances.{consts};
+ghost use Rattle.eir_term.specs.Verdicts.{foreign_at, refuted, fits};
 ghost use Rattle.eirene.specs.Findings.{dependency_of, finding_of};
 ghost use Rattle.eirene.specs.Names.{name_text};
-ghost use Rattle.eirene.specs.Texts.{constant_text, example_text, finding_text, mapping_text};
+ghost use Rattle.eirene.specs.Texts.{constant_text, example_text, finding_text, mapping_text, moved_text, source_at};
 
 use super::dependency::print_dependency;
 use super::print_number;
@@ -12,9 +13,10 @@ use crate::canonical::Dep;
 use crate::examples::Examples;
 use crate::names::Names;
 use crate::schema::Schema;
+use crate::values::constants_of;
 use crate::verdict::Verdict;
 use crate::workspace::Workspace;
-use eir_term::{Memory, Text, Val};
+use eir_term::{Fact, Map, Memory, Text, Val};
 use std::alloc::Global;
 
 /// Appends what the fit found.
@@ -28,6 +30,9 @@ pub fn print_verdict(
 {
     match verdict {
         Verdict::Domain { example, constant } => print_domain(workspace, *example, *constant, out),
+        Verdict::Refuted { first, second, map } => {
+            print_refuted(alloc, workspace, *first, *second, map, out)
+        }
         Verdict::Fits(mapping) => print_fits(alloc, workspace, mapping, out),
     }
 }
@@ -45,6 +50,25 @@ fn print_domain(
     print_example(&workspace.examples, example, out)?;
     out.push_all(b" ")?;
     print_constant(&workspace.names, Val::Const(constant), out)?;
+    out.push_all(b"\n")
+}
+
+/// Appends the two examples, and where the map sends the constants of the first one's source.
+fn print_refuted(
+    alloc: Global,
+    workspace: &Workspace,
+    first: usize,
+    second: usize,
+    map: &Map,
+    out: &mut Text,
+) -> Result<(), Memory>
+    ensures { OnOk result (out.new ≡ out.old ++ finding_text workspace.now (refuted first second map.now)) }
+{
+    out.push_all(b"refuted ")?;
+    print_example(&workspace.examples, first, out)?;
+    out.push_all(b" ")?;
+    print_example(&workspace.examples, second, out)?;
+    print_moves_at(alloc, workspace, first, map, out)?;
     out.push_all(b"\n")
 }
 
@@ -77,6 +101,62 @@ fn print_mapping(
         out.push_all(b"\n")?;
     }
     Ok(())
+}
+
+/// Appends where the map sends the constants of the source of the example at a place.
+fn print_moves_at(
+    alloc: Global,
+    workspace: &Workspace,
+    place: usize,
+    map: &Map,
+    out: &mut Text,
+) -> Result<(), Memory>
+    ensures { OnOk result (out.new ≡ out.old
+        ++ flat_map (moved_text workspace.now.names map.now) (consts (source_at workspace.now.examples place))) }
+{
+    match workspace.examples.source(place) {
+        Some(source) => print_moves(alloc, &workspace.names, source.as_slice(), map, out),
+        None => Ok(()),
+    }
+}
+
+/// Appends where the map sends the constants of these facts.
+fn print_moves(
+    alloc: Global,
+    names: &Names,
+    facts: &[Fact],
+    map: &Map,
+    out: &mut Text,
+) -> Result<(), Memory>
+    ensures { OnOk result (out.new ≡ out.old ++ flat_map (moved_text names.now map.now) (consts facts.now)) }
+{
+    let constants = constants_of(alloc, facts)?;
+    print_all_moved(names, constants.as_slice(), map, out)
+}
+
+/// Appends where the map sends each of these.
+fn print_all_moved(
+    names: &Names,
+    constants: &[Val],
+    map: &Map,
+    out: &mut Text,
+) -> Result<(), Memory>
+    ensures { OnOk result (out.new ≡ out.old ++ flat_map (moved_text names.now map.now) constants.now) }
+{
+    for constant in constants {
+        print_moved(names, *constant, map, out)?;
+    }
+    Ok(())
+}
+
+/// Appends a space, the constant, an arrow, and its image.
+fn print_moved(names: &Names, constant: Val, map: &Map, out: &mut Text) -> Result<(), Memory>
+    ensures { OnOk result (out.new ≡ out.old ++ moved_text names.now map.now constant) }
+{
+    out.push_all(b" ")?;
+    print_constant(names, constant, out)?;
+    out.push_all(b"->")?;
+    print_constant(names, map.get(constant).unwrap_or(constant), out)
 }
 
 /// Appends the name of an example.

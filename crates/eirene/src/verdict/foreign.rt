@@ -6,7 +6,8 @@ ghost use Rattle.eir_term.specs.Values.{is_const, val_eq};
 ghost use Rattle.eir_term.specs.Verdicts.{first_foreign};
 
 use crate::data_example::DataExample;
-use crate::values::{constants_of, values_of};
+use crate::values::constants_of;
+use eir_hom::values::values_of;
 use eir_term::{Memory, Val};
 use indexmap::IndexSet;
 use std::alloc::Global;
