@@ -2,6 +2,7 @@
 --   AnswersAll     == the input was read to its end, is within the limit, and all its replies were written
 --   AppendsPrefix  == a prefix of a text was written
 --   AppendsBut     == all of a text but what is pending was written
+--   StopsWithin    == a prefix of the bytes of the replies was written
 use Rattle.std.specs.Prelude.{◌≡◌, ℕ, ◌≤◌, List, ◌++◌, length, Option}
 use Rattle.std.specs.Io.KnownBytes.{Appends, Consumes, IsAtEnd}
 use Rattle.eirene.specs.Scripts.{output_of}
@@ -26,3 +27,11 @@ pub record AppendsBut (old new : Option (List ℕ)) (pending all : List ℕ) : T
   pub front : List ℕ
   pub grew : Appends old new front
   pub split : front ++ pending ≡ all
+
+-- the input was read to its end, is within the limit, and a prefix of the bytes of its replies was written
+pub record StopsWithin (left_old left_new written_old written_new : Option (List ℕ)) (limit : ℕ) : Type 0 where
+  pub bytes : List ℕ
+  pub consumed : Consumes left_old left_new bytes
+  pub at_end : IsAtEnd left_new
+  pub within : length bytes ≤ limit
+  pub answered : AppendsPrefix written_old written_new (output_of bytes)
