@@ -12,7 +12,8 @@ use eir_inst::Instance;
 use eir_term::{Fact, Map, Memory, Val};
 use std::alloc::Global;
 
-/// All homomorphisms from `a` to `b` over the start, in order (homomorphisms: textbook; their order: this project's own).
+/// All homomorphisms from `a` to `b` over the start, in order (homomorphisms: textbook; their order: this project's
+/// own).
 ///
 /// The least maps of all partial matches of one length stand in memory at once, and each try copies one: this is for
 /// instances of some ten facts.
@@ -29,7 +30,8 @@ pub fn list_homs(alloc: Global, a: &Instance, b: &Instance, start: &Map) -> Resu
 
 /// The least maps over the start that send each fact of `a` to a fact of `b`, in order.
 fn list_matches(alloc: Global, a: &[Fact], b: &[Fact], start: &Map) -> Result<Vec<Map>, Memory>
-    ensures { IfOk result (λ v. v.items ≡ filter_map (map_of a.now b.now start.now) (partials a.now b.now start.now (length a.now))) }
+    ensures { IfOk result (λ v. v.items
+        ≡ filter_map (map_of a.now b.now start.now) (partials a.now b.now start.now (length a.now))) }
 {
     let mut maps = Vec::new(alloc);
     maps.push(start.copy(alloc)?)?;

@@ -55,7 +55,8 @@ impl Instance {
         ensures ok { OnOk result (self.new ≡ record { facts = self.old.facts ++ fact ∷ []; limit = self.old.limit }) }
         ensures err { OnErr result (self.new ≡ self.old) }
         ensures there { IsErrOf result InsertRefused.There ↔ (fact ∈ self.old.facts) }
-        ensures full { IsErrOf result (InsertRefused.Full self.old.limit) ↔ ((fact ∈ self.old.facts → ⊥) × (length self.old.facts ≡ self.old.limit)) }
+        ensures full { IsErrOf result (InsertRefused.Full self.old.limit)
+            ↔ ((fact ∈ self.old.facts → ⊥) × (length self.old.facts ≡ self.old.limit)) }
         ensures its_limit { (n : ℕ) → IsErrOf result (InsertRefused.Full n) → n ≡ self.old.limit }
     {
         if self.facts.contains(&fact) {

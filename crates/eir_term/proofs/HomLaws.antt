@@ -1,17 +1,18 @@
 -- Maps and homomorphisms: graphs, agreement, composition.
 use Rattle.std.proofs.Common.{◌≡◌, ℕ, inl, inr, true, List, [], ◌∷◌, map, Some, None, unwrap_or, refl, sym, ◌∙◌, ap, ap₂, subst}
 use Rattle.std.specs.List.{list_any}
-use Rattle.std.proofs.lemmas.Bool.{cases_Bool}
+use Rattle.std.proofs.lemmas.Bool.{cases_Bool, false≢true}
+use Rattle.std.proofs.lemmas.List.{map-id}
 use Rattle.eir_term.specs.declared.val.Val.{Val}
-use Rattle.eir_term.specs.declared.val.Val.TheVariants.{Const, Fixed}
+use Rattle.eir_term.specs.declared.val.Val.TheVariants.{Const, Fixed, Null}
 use Rattle.eir_term.specs.declared.fact.Fact.{Fact}
 use Rattle.eir_term.specs.Lists.{◌∈◌, IsDistinct}
-use Rattle.eir_term.specs.Values.{val_eq, val_eq-decides, is_const}
-use Rattle.eir_term.specs.Instances.{occurrences, values, consts}
+use Rattle.eir_term.specs.Values.{val_eq, val_eq-decides, is_const, is_null}
+use Rattle.eir_term.specs.Instances.{occurrences, values, consts, nulls, IsSource}
 use Rattle.eir_term.specs.Maps.{domain_of, get, image, graph, fact_image}
 use Rattle.eir_term.specs.Homs.{IsMorphism, Hom}
 use Rattle.eir_term.specs.Extension.{Extends}
-use Rattle.eir_term.proofs.ListLaws.{∈-append_left, ∈-append_right, ∈-append_cases, ∈-filter, ∈-filter_from, ∈-distinct, ∈-distinct_from, IsDistinct-distinct, ∈-list_any, ∈-list_any_from, apart-false}
+use Rattle.eir_term.proofs.ListLaws.{∈-append_left, ∈-append_right, ∈-append_cases, ∈-filter, ∈-filter_from, ∈-map, ∈-distinct, ∈-distinct_from, IsDistinct-distinct, ∈-list_any, ∈-list_any_from, apart-false}
 
 -- two functions that agree on a list have the same images there
 pub map-agree : {X Y : Type 0} (g h : X → Y) (xs : List X) → ((x : X) → x ∈ xs → g x ≡ h x) → map g xs ≡ map h xs
@@ -54,6 +55,34 @@ pub ∈-consts : (c : ℕ) (K : List Fact) → Const c ∈ values K → Const c 
 pub consts-values : (v : Val) (K : List Fact) → v ∈ consts K → v ∈ values K
 consts-values v K h = (∈-filter_from is_const v (values K) h).0
 
+-- a constant of an instance is a constant
+pub consts-const : (v : Val) (K : List Fact) → v ∈ consts K → (c : ℕ) × (v ≡ Const c)
+consts-const v K h = by v (∈-filter_from is_const v (values K) h).1
+  where
+    by : (v : Val) → is_const v ≡ true → (c : ℕ) × (v ≡ Const c)
+    by (Const c) t = (c, refl)
+    by (Fixed n) t = absurd (false≢true t)
+    by (Null n) t = absurd (false≢true t)
+
+pub ∈-nulls : (n : ℕ) (K : List Fact) → Null n ∈ values K → Null n ∈ nulls K
+∈-nulls n K h = ∈-filter is_null (Null n) (values K) refl h
+
+pub nulls-values : (v : Val) (K : List Fact) → v ∈ nulls K → v ∈ values K
+nulls-values v K h = (∈-filter_from is_null v (values K) h).0
+
+-- a null of an instance is a null
+pub nulls-null : (v : Val) (K : List Fact) → v ∈ nulls K → (n : ℕ) × (v ≡ Null n)
+nulls-null v K h = by v (∈-filter_from is_null v (values K) h).1
+  where
+    by : (v : Val) → is_null v ≡ true → (n : ℕ) × (v ≡ Null n)
+    by (Const c) t = absurd (false≢true t)
+    by (Fixed n) t = absurd (false≢true t)
+    by (Null n) t = (n, refl)
+
+-- no value of a source is a null
+pub source-no_null : (K : List Fact) (n : ℕ) → IsSource K → Null n ∈ values K → ⊥
+source-no_null K n clean h = clean n (∈-distinct_from val_eq val_eq-decides (Null n) (occurrences K) h)
+
 -- graphs
 pub get-graph : (g : Val → Val) (v : Val) (vs : List Val) → v ∈ vs → get (graph g vs) v ≡ Some (g v)
 get-graph g v [] h = elim h [ ]
@@ -94,6 +123,17 @@ IsMorphism-compose g h K L N m k = record {
   sends = λ f i. subst (λ x. x ∈ N) (fact_image-compose h g f) (k.sends (fact_image g f) (m.sends f i));
   fixed = λ n. ap h (m.fixed n) ∙ k.fixed n;
 }
+
+-- the function that changes nothing is a morphism
+pub IsMorphism-identity : (K : List Fact) → IsMorphism (λ v. v) K K
+IsMorphism-identity K = record { sends = λ f i. subst (λ x. x ∈ K) (sym (same f)) i; fixed = λ n. refl }
+  where
+    same : (f : Fact) → fact_image (λ v. v) f ≡ f
+    same f = ap (λ vs. let x : Fact = record { rel = f.rel; args = vs } in x) (map-id f.args)
+
+-- a morphism sends values to values
+pub IsMorphism-values : (g : Val → Val) (K L : List Fact) (v : Val) → IsMorphism g K L → v ∈ values K → g v ∈ values L
+IsMorphism-values g K L v m h = let r = ∈-values_from v K h in ∈-values (g v) (fact_image g r.0) L (m.sends r.0 r.1) (∈-map g v (r.0).args r.2)
 
 -- each morphism is a homomorphism, as the list of its pairs
 pub Hom-graph : (g : Val → Val) (K L : List Fact) → IsMorphism g K L → Hom (graph g (values K)) K L

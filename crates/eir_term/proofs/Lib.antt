@@ -7,3 +7,9 @@ pub mod BindLaws
 pub mod PlanLaws
 pub mod SearchLaws
 pub mod VerdictLaws
+pub mod ExtensionLaws
+pub mod MappingLaws
+pub mod PullLaws
+pub mod CanonicalLaws
+pub mod FitLaws
+pub mod HeadlineLaws

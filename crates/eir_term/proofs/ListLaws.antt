@@ -1,5 +1,5 @@
 -- Laws of lists as finite sets.
-use Rattle.std.proofs.Common.{◌≡◌, ◌≢◌, ◌⊎◌, inl, inr, Bool, true, false, cond, Decides, List, [], ◌∷◌, ◌++◌, map, filter, flat_map, Some, slice_get, refl, sym, ◌∙◌, ap, subst}
+use Rattle.std.proofs.Common.{◌≡◌, ◌≢◌, ◌⊎◌, ◌+◌, suc, inl, inr, Bool, true, false, cond, Decides, List, [], ◌∷◌, ◌++◌, map, filter, flat_map, length, Some, slice_get, refl, sym, ◌∙◌, ap, subst, arith}
 use Rattle.std.specs.List.{list_any}
 use Rattle.std.proofs.lemmas.Bool.{cases_Bool, or_cases, false≢true}
 use Rattle.eir_term.specs.Lists.{◌∈◌, IsDistinct, without, distinct, place_of}
@@ -32,6 +32,12 @@ module _ {X : Type 0} where
       by true t rest (inl e) = (inl e, ap p e ∙ t)
       by true t rest (inr k) = (inr (rest k).0, (rest k).1)
       by false t rest k = (inr (rest k).0, (rest k).1)
+
+  -- a filter leaves no element twice
+  pub IsDistinct-filter : (p : X → Bool) (xs : List X) → IsDistinct xs → IsDistinct (filter p xs)
+  IsDistinct-filter p [] d = tt
+  IsDistinct-filter p (x ∷ xs) d = elim (cases_Bool (p x))
+      [ inl t ↦ rw t (λ h. d.0 (∈-filter_from p x xs h).0, IsDistinct-filter p xs d.1) | inr t ↦ rw t (IsDistinct-filter p xs d.1) ]
 
 module _ {X Y : Type 0} where
   pub ∈-map : (f : X → Y) (x : X) (xs : List X) → x ∈ xs → f x ∈ map f xs
@@ -107,6 +113,18 @@ module _ {X : Type 0} (eq : X → X → Bool) (same : (a b : X) → Decides (eq 
   slice_get-place_of x (z ∷ xs) (inl e) = rw ((same x z).1 e) (ap Some (sym e))
   slice_get-place_of x (z ∷ xs) (inr h) = elim (cases_Bool (eq x z))
       [ inl s ↦ rw s (ap Some (sym ((same x z).0 s))) | inr s ↦ rw s (slice_get-place_of x xs h) ]
+
+  -- where an element is not the head, its place is one more than in the tail
+  pub place_of-tail : (x y : X) (xs : List X) → x ≢ y → place_of eq x (y ∷ xs) ≡ suc (place_of eq x xs)
+  place_of-tail x y xs ne = rw (apart-false x y ne)
+
+  -- where the first list lacks an element, its place is counted on from that list's length
+  pub place_of-append_right : (x : X) (xs ys : List X) → (x ∈ xs → ⊥) → place_of eq x (xs ++ ys) ≡ length xs + place_of eq x ys
+  place_of-append_right x [] ys absent = omega arith
+  place_of-append_right x (z ∷ xs) ys absent =
+      let e = place_of-tail x z (xs ++ ys) (λ k. absent (inl k)) in
+      let r = place_of-append_right x xs ys (λ k. absent (inr k)) in
+      omega arith
 
   pub ∈-list_any : (x : X) (xs : List X) → x ∈ xs → list_any (eq x) xs ≡ true
   ∈-list_any x [] h = elim h [ ]

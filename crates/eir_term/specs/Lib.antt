@@ -18,4 +18,5 @@ pub mod Plans
 pub mod Search
 pub mod Order
 pub mod Verdicts
+pub mod Headline
 pub mod Rows

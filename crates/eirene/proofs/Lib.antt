@@ -14,6 +14,7 @@ pub mod NameLaws
 pub mod PlaceLaws
 pub mod PositionLaws
 pub mod PrintLaws
+pub mod PromiseLaws
 pub mod ReadingLaws
 pub mod ReplyLaws
 pub mod SchemaLaws

@@ -11,6 +11,7 @@ pub mod Bounds
 pub mod Replies
 pub mod Texts
 pub mod Scripts
+pub mod Promise
 pub mod Outcomes
 pub mod Rows
 pub mod Statuses

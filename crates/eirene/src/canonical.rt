@@ -30,7 +30,8 @@ pub fn glav_dependency(alloc: Global, source: &[Fact], target: &[Fact]) -> Resul
     requires few { FewVariables (record { source = source.now; target = target.now }) }
     requires small_source { (f : Fact) → f ∈ source.now → IsSmallFact f }
     requires small_target { (f : Fact) → f ∈ target.now → IsSmallFact f }
-    ensures { IfOk result (λ d. dependency_of d ≡ glav_dependency (record { source = source.now; target = target.now })) }
+    ensures { IfOk result (λ d. dependency_of d
+        ≡ glav_dependency (record { source = source.now; target = target.now })) }
 {
     let (variables, exists) = variables(alloc, source, target)?;
     let premise = atoms(alloc, &variables, source)?;

@@ -45,7 +45,8 @@ impl From<AllocError> for ReadStop {
 /// Reads to the end of the input, which may have 16,777,216 bytes. The source is asked again only after it gave
 /// at least one byte, so the turns of the loop are never used up.
 pub fn read_all<S: Source>(alloc: Global, input: &mut S) -> Result<Vec<u8>, ReadStop>
-    ensures all { IfOk result (λ bytes. Consumes (S.left input.old) (S.left input.new) bytes.items × IsAtEnd (S.left input.new)) }
+    ensures all { IfOk result (λ bytes. Consumes (S.left input.old) (S.left input.new) bytes.items
+        × IsAtEnd (S.left input.new)) }
     ensures within { IfOk result (λ bytes. length bytes.items ≤ INPUT_LIMIT) }
     ensures too_long { IsErrOf result ReadStop.TooLong → IfSome (S.left input.old) (λ all. INPUT_LIMIT < length all) }
     ensures fault { IsErrOf result ReadStop.Fault → Rose (S.faults input.old) (S.faults input.new) }

@@ -6,7 +6,7 @@
 //!
 //! # What a contract sees
 //!
-//! `run` speaks of the bytes that its source and its sink tell, in the words of `specs/Outcomes`: all that is
+//! `run` speaks of the bytes that its source and its sink tell, in the words of `specs/Promise`: all that is
 //! written for an input is `output_of` of its bytes (`specs/Scripts`), a fold of `reply_to` and `next` over the lines
 //! (`specs/Replies`); a `fit` is answered by `verdict` of `eir_term` on the present examples. The texts stand in
 //! `specs/Texts`, apart from the code that prints them.

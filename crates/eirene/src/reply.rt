@@ -27,7 +27,8 @@ pub enum Reply {
 
 /// Answers a line of a script.
 pub fn answer_to(alloc: Global, line: &[u8], workspace: &mut Workspace) -> Result<Reply, Memory>
-    ensures { IfOk result (λ r. (told r ≡ reply_to line.now workspace.old) × (workspace.new ≡ next line.now workspace.old)) }
+    ensures { IfOk result (λ r. (told r ≡ reply_to line.now workspace.old)
+        × (workspace.new ≡ next line.now workspace.old)) }
 {
     match read_line(alloc, line, &mut workspace.names) {
         Ok(command) => perform(alloc, &command, workspace),
@@ -39,7 +40,8 @@ pub fn answer_to(alloc: Global, line: &[u8], workspace: &mut Workspace) -> Resul
 /// Does what a command asks, or refuses it.
 fn perform(alloc: Global, command: &Command, workspace: &mut Workspace) -> Result<Reply, Memory>
     requires { IsFilledRequest (request_of command.now) }
-    ensures { IfOk result (λ r. (told r ≡ answer (request_of command.now) workspace.old) × (workspace.new ≡ after (request_of command.now) workspace.old)) }
+    ensures { IfOk result (λ r. (told r ≡ answer (request_of command.now) workspace.old)
+        × (workspace.new ≡ after (request_of command.now) workspace.old)) }
 {
     match command {
         Command::Fit => Ok(Reply::Found(verdict_on(alloc, &workspace.examples)?)),
@@ -50,7 +52,8 @@ fn perform(alloc: Global, command: &Command, workspace: &mut Workspace) -> Resul
 /// Does what a command other than a fit asks, or refuses it.
 fn edit(alloc: Global, command: &Command, workspace: &mut Workspace) -> Result<Reply, Memory>
     requires { IsFilledRequest (request_of command.now) }
-    ensures { IfOk result (λ r. (told r ≡ accepted_unless (refusal (request_of command.now) workspace.old)) × (workspace.new ≡ after (request_of command.now) workspace.old)) }
+    ensures { IfOk result (λ r. (told r ≡ accepted_unless (refusal (request_of command.now) workspace.old))
+        × (workspace.new ≡ after (request_of command.now) workspace.old)) }
 {
     match workspace.apply(alloc, command) {
         Ok(()) => Ok(Reply::Accepted),

@@ -33,8 +33,10 @@ fn add_found<K: Sink>(
     pending: &mut Outbox,
     out: &mut K,
 ) -> Result<(), Stop>
-    ensures ok { OnOk result (AppendsBut (K.written out.old) (K.written out.new) pending.new (pending.old ++ finding_text workspace.now (finding_of verdict.now))) }
-    ensures err { OnErr result (AppendsPrefix (K.written out.old) (K.written out.new) (pending.old ++ finding_text workspace.now (finding_of verdict.now))) }
+    ensures ok { OnOk result (AppendsBut (K.written out.old) (K.written out.new) pending.new
+        (pending.old ++ finding_text workspace.now (finding_of verdict.now))) }
+    ensures err { OnErr result (AppendsPrefix (K.written out.old) (K.written out.new)
+        (pending.old ++ finding_text workspace.now (finding_of verdict.now))) }
     ensures cause { HasStopCause (K.faults out.old) (K.faults out.new) result }
 {
     let mut text = Text::make(alloc, b"")?;
@@ -50,8 +52,10 @@ fn add_reply<K: Sink>(
     pending: &mut Outbox,
     out: &mut K,
 ) -> Result<(), Stop>
-    ensures ok { OnOk result (AppendsBut (K.written out.old) (K.written out.new) pending.new (pending.old ++ reply_text workspace.now (told reply.now))) }
-    ensures err { OnErr result (AppendsPrefix (K.written out.old) (K.written out.new) (pending.old ++ reply_text workspace.now (told reply.now))) }
+    ensures ok { OnOk result (AppendsBut (K.written out.old) (K.written out.new) pending.new
+        (pending.old ++ reply_text workspace.now (told reply.now))) }
+    ensures err { OnErr result (AppendsPrefix (K.written out.old) (K.written out.new)
+        (pending.old ++ reply_text workspace.now (told reply.now))) }
     ensures cause { HasStopCause (K.faults out.old) (K.faults out.new) result }
 {
     match reply {
@@ -69,9 +73,11 @@ fn answer_line<K: Sink>(
     pending: &mut Outbox,
     out: &mut K,
 ) -> Result<(), Stop>
-    ensures ok { OnOk result (AppendsBut (K.written out.old) (K.written out.new) pending.new (pending.old ++ line_reply workspace.old line.now)) }
+    ensures ok { OnOk result (AppendsBut (K.written out.old) (K.written out.new) pending.new
+        (pending.old ++ line_reply workspace.old line.now)) }
     ensures next { OnOk result (workspace.new ≡ next line.now workspace.old) }
-    ensures err { OnErr result (AppendsPrefix (K.written out.old) (K.written out.new) (pending.old ++ line_reply workspace.old line.now)) }
+    ensures err { OnErr result (AppendsPrefix (K.written out.old) (K.written out.new)
+        (pending.old ++ line_reply workspace.old line.now)) }
     ensures cause { HasStopCause (K.faults out.old) (K.faults out.new) result }
 {
     let reply = answer_to(alloc, line, workspace)?;
@@ -91,7 +97,8 @@ fn unended_text(rest: &[u8]) -> &'static [u8]
 /// Refuses the bytes after the last line feed, if there are any, and writes all that is pending.
 fn answer_unended<K: Sink>(rest: &[u8], pending: &mut Outbox, out: &mut K) -> Result<(), Stop>
     ensures ok { OnOk result (Appends (K.written out.old) (K.written out.new) (pending.old ++ unended_reply rest.now)) }
-    ensures err { OnErr result (AppendsPrefix (K.written out.old) (K.written out.new) (pending.old ++ unended_reply rest.now)) }
+    ensures err { OnErr result (AppendsPrefix (K.written out.old) (K.written out.new)
+        (pending.old ++ unended_reply rest.now)) }
     ensures cause { HasStopCause (K.faults out.old) (K.faults out.new) result }
 {
     pending.add(unended_text(rest), out)?;

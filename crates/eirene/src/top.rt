@@ -3,7 +3,8 @@ ghost use Rattle.std.specs.Prelude.{◌≡◌, ◌≢◌, ◌↔◌, ◌⊎◌, 
 ghost use Rattle.std.specs.Io.KnownBytes.{Keeps};
 ghost use Rattle.eir_io.specs.Causes.{Rose};
 ghost use Rattle.eir_io.specs.Files.{KeepsFiles};
-ghost use Rattle.eirene.specs.Outcomes.{AnswersAll, StopsWithin};
+ghost use Rattle.eirene.specs.Promise.{AnswersAll};
+ghost use Rattle.eirene.specs.Outcomes.{StopsWithin};
 ghost use Rattle.eirene.specs.Statuses.{status_of_read, status_of_write};
 
 use crate::input::{INPUT_LIMIT, ReadStop, read_all};
@@ -58,15 +59,21 @@ pub fn run<S: Source, K: Sink, F: Shelf>(
     ensures untouched { result ≡ Status.BadWords → (input.new ≡ input.old) × (out.new ≡ out.old) }
 
     // The input was read to its end, and all replies were written.
-    ensures done { result ≡ Status.Done → AnswersAll (S.left input.old) (S.left input.new) (K.written out.old) (K.written out.new) INPUT_LIMIT }
+    ensures done { result ≡ Status.Done
+        → AnswersAll (S.left input.old) (S.left input.new) (K.written out.old) (K.written out.new) INPUT_LIMIT }
 
     // Nothing was written, and the source's count of faults rose, or the input is longer than the limit.
-    ensures read { result ≡ Status.ReadFault → Rose (S.faults input.old) (S.faults input.new) × Keeps (K.written out.old) (K.written out.new) }
-    ensures too_long { result ≡ Status.InputTooLong → IfSome (S.left input.old) (λ bytes. INPUT_LIMIT < length bytes) × Keeps (K.written out.old) (K.written out.new) }
+    ensures read { result ≡ Status.ReadFault → Rose (S.faults input.old) (S.faults input.new)
+        × Keeps (K.written out.old) (K.written out.new) }
+    ensures too_long { result ≡ Status.InputTooLong
+        → IfSome (S.left input.old) (λ bytes. INPUT_LIMIT < length bytes)
+        × Keeps (K.written out.old) (K.written out.new) }
 
     // A prefix of the bytes of the replies was written, and the sink's count of faults rose, or there was no memory.
-    ensures write { result ≡ Status.WriteFault → Rose (K.faults out.old) (K.faults out.new) × StopsWithin (S.left input.old) (S.left input.new) (K.written out.old) (K.written out.new) INPUT_LIMIT }
-    ensures memory { result ≡ Status.Memory → Keeps (K.written out.old) (K.written out.new) ⊎ StopsWithin (S.left input.old) (S.left input.new) (K.written out.old) (K.written out.new) INPUT_LIMIT }
+    ensures write { result ≡ Status.WriteFault → Rose (K.faults out.old) (K.faults out.new)
+        × StopsWithin (S.left input.old) (S.left input.new) (K.written out.old) (K.written out.new) INPUT_LIMIT }
+    ensures memory { result ≡ Status.Memory → Keeps (K.written out.old) (K.written out.new)
+        ⊎ StopsWithin (S.left input.old) (S.left input.new) (K.written out.old) (K.written out.new) INPUT_LIMIT }
 
     // No other status comes, counts of faults never fall, and the shelf is not called.
     ensures served { (result ≢ Status.CheckNo) × (result ≢ Status.ShelfFault) }

@@ -86,7 +86,8 @@ fn refuted_from(
     first: &DataExample,
 ) -> Result<Option<Verdict>, Memory>
     ensures { IfOk result (λ o. option_map finding_of o ≡
-        first_finding (λ j f. option_map (refuted place j) (first_refuting first.now f)) 0 (map data_example examples.now)) }
+        first_finding (λ j f. option_map (refuted place j) (first_refuting first.now f)) 0
+        (map data_example examples.now)) }
 {
     for other in 0..examples.len() {
         let second = DataExample::at(examples, other);

@@ -36,7 +36,9 @@ impl<'a> Model for Numbered<'a> {
 
     ghost view = { λ n. dependency_of n.dep.now };
 
-    ghost invariant = { λ n. (n.exists.keys ≡ distinct nat_eq n.dep.now.exists.items) × (n.premise.keys ≡ premise_variables (dependency_of n.dep.now)) × (n.existential.keys ≡ existential_variables (dependency_of n.dep.now)) };
+    ghost invariant = { λ n. (n.exists.keys ≡ distinct nat_eq n.dep.now.exists.items)
+        × (n.premise.keys ≡ premise_variables (dependency_of n.dep.now))
+        × (n.existential.keys ≡ existential_variables (dependency_of n.dep.now)) };
 }
 
 impl Numbered<'_> {
