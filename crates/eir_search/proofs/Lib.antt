@@ -1,0 +1,4 @@
+pub mod TryLaws
+pub mod CountLaws
+pub mod RunLaws
+pub mod TakenLaws

@@ -1,0 +1,5 @@
+-- In the order of reading.
+pub mod Spaces
+pub mod Tries
+pub mod Standings
+pub mod Outcomes
