@@ -1,22 +1,63 @@
-//! All homomorphisms from one instance into another, in order.
+//! All homomorphisms from one instance into another, in order, within a limit of tries.
 //!
 //! A homomorphism sends each fact of an instance `a` to a fact of an instance `b`, value by value; it may move
-//! constants and nulls, and fixes each fixed constant. They are listed level by level: from the least maps that send
-//! the first facts of `a` to facts of `b` come those that send one more. The list for `E(1,2)` and the facts `E(1,2)`,
-//! `E(2,1)` is `1->1, 2->2` and `1->2, 2->1`. The crate stands apart so that the crates above it know the order of
-//! homomorphisms by one word and never see a search.
+//! constants and nulls, and fixes each fixed constant. From `E(1,2)` to the facts `E(1,2)` and `E(2,1)` there are two:
+//! `1->1, 2->2` and `1->2, 2->1`.
+//!
+//! [`Homs`] lists those that agree with a start map, turn by turn; [`find_hom`] answers the first. The facts of `a` are
+//! placed one after the other in the order of a plan ([`plan_of`]), each at the facts of `b` of its relation whose values
+//! have the right profiles, and that have at the first known column the right value. Each such fact is one try. A
+//! [`Planner`] and a [`Guard`] are a caller's own answers for the weight of a fact and for profiles.
+//!
+//! A search goes through numbers alone: a value of `a` is a slot, a value of `b` is the number that a slot is bound to,
+//! and the facts that a fact may go to are rows of numbers, laid out when the listing begins. A try costs a load and a
+//! comparison; no turn takes memory, hashes or looks through anything.
 //!
 //! # What a contract sees
 //!
-//! An `Instance` is seen as its facts with their limit, a `Map` as its list of pairs. The list of homomorphisms is
-//! `homs` of `eir_term`'s `specs/Search`, the values of a list of facts are `values` of its `specs/Instances`. What
-//! `homs` has and lacks, and in which order, is told by the laws of `eir_term`'s `proofs/SearchLaws`.
+//! A `Homs` is seen as a `Progress` of `specs/Progress`: from what to what it goes, its start, what the last turn found,
+//! the homomorphisms that are still to come, in order, and the tries that are still to be made. At the beginning these
+//! are `homs` and `need` of `eir_term`'s `specs/Search`; what `homs` has and lacks, and in which order, is told by the
+//! laws of `eir_term`'s `proofs/SearchLaws`. A turn takes a homomorphism off where it answers `Found`.
+//!
+//! Below that a `Matcher` is seen as a `Match` of `specs/Matching`, the problem in numbers, and `Tables` as their rows.
+//! `specs/Levels` says which numbers stand for which facts; the laws of `proofs/NumberLaws` lead from these to the facts.
+//!
+//! # How a caller loops
+//!
+//! Each turn but the last makes a try or finds a homomorphism, so a loop over turns with `at_most` above 0 ends by the
+//! tries and the homomorphisms that are still to come.
 #![tactic(auto)]
 
-mod bind;
+mod atom_view;
+mod columns;
+mod compile;
+mod find;
+mod fits;
+mod front;
+mod given;
+mod groups;
+mod guard;
 mod homs;
+mod kinds;
+mod matching;
+mod occurrences;
+mod plan;
+#[cfg(test)]
+mod plan_tests;
+mod planner;
+mod restart;
+mod rows;
+mod starts;
+mod stock;
+mod tables;
 #[cfg(test)]
 mod tests;
-pub mod values;
+mod tournament;
 
-pub use homs::list_homs;
+pub use atom_view::AtomView;
+pub use find::{FindStop, find_hom};
+pub use guard::Guard;
+pub use homs::{HomTurn, Homs};
+pub use plan::plan_of;
+pub use planner::Planner;

@@ -1,1 +1,12 @@
+pub mod PlaceLaws
+pub mod KeyLaws
+pub mod PostingLaws
+pub mod ValueLaws
+pub mod MarkLaws
+pub mod GrownLaws
+pub mod AddLaws
+pub mod IndexLaws
+pub mod ClosedLaws
+pub mod FrontLaws
+pub mod RemoveLaws
 pub mod InsertLaws

@@ -113,6 +113,14 @@ Grows-append m v w e free = record {
       ap (λ o. unwrap_or o (Fixed k)) old ∙ keeps k;
 }
 
+-- a map that is followed by what moves no fixed constant moves none
+pub Follows-keeps : (g : Val → Val) (m : List (Val × Val)) → ((k : ℕ) → g (Fixed k) ≡ Fixed k) → Follows g m → KeepsFixed m
+Follows-keeps g m fixed follows k = by (get m (Fixed k)) refl
+  where
+    by : (o : Option Val) → get m (Fixed k) ≡ o → unwrap_or o (Fixed k) ≡ Fixed k
+    by None e = refl
+    by (Some w) e = sym (follows (Fixed k) w e) ∙ fixed k
+
 Follows-append : (g : Val → Val) (m : List (Val × Val)) (v : Val) → get m v ≡ None → Follows g m → Follows g (m ++ (v, g v) ∷ [])
 Follows-append g m v e follows u x h = elim (cases_Bool (val_eq v u)) [
   | inl t ↦ (let k : Some (g v) ≡ Some x = sym (get-append m v (g v) u e ∙ rw t) ∙ h in sym (ap g ((val_eq-decides v u).0 t)) ∙ same_Some (g v) x k)

@@ -19,6 +19,12 @@ pub map-agree : {X Y : Type 0} (g h : X → Y) (xs : List X) → ((x : X) → x 
 map-agree g h [] e = refl
 map-agree g h (x ∷ xs) e = ap₂ (λ y ys. y ∷ ys) (e x (inl refl)) (map-agree g h xs (λ y k. e y (inr k)))
 
+-- and two functions with the same images on a list agree on its elements
+pub map-agree_from : {X Y : Type 0} (f g : X → Y) (x : X) (xs : List X) → map f xs ≡ map g xs → x ∈ xs → f x ≡ g x
+map-agree_from f g x [] e h = elim h [ ]
+map-agree_from f g x (y ∷ xs) e (inl p) = let head : f y ≡ g y = cc in ap f p ∙ head ∙ sym (ap g p)
+map-agree_from f g x (y ∷ xs) e (inr h) = let tail : map f xs ≡ map g xs = cc in map-agree_from f g x xs tail h
+
 pub map-compose : {X Y Z : Type 0} (g : Y → Z) (h : X → Y) (xs : List X) → map g (map h xs) ≡ map (λ x. g (h x)) xs
 map-compose g h [] = refl
 map-compose g h (x ∷ xs) = ap (λ ys. g (h x) ∷ ys) (map-compose g h xs)

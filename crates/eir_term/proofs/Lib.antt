@@ -1,9 +1,10 @@
 pub mod ListLaws
-pub mod MapLaws
 pub mod InstanceLaws
 pub mod HomLaws
 pub mod OrderLaws
+pub mod MapLaws
 pub mod BindLaws
+pub mod ProfileLaws
 pub mod PlanLaws
 pub mod SearchLaws
 pub mod VerdictLaws

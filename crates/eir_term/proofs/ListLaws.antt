@@ -1,5 +1,5 @@
 -- Laws of lists as finite sets.
-use Rattle.std.proofs.Common.{◌≡◌, ◌≢◌, ◌⊎◌, ◌+◌, suc, inl, inr, Bool, true, false, cond, Decides, List, [], ◌∷◌, ◌++◌, map, filter, flat_map, length, Some, slice_get, refl, sym, ◌∙◌, ap, subst, arith}
+use Rattle.std.proofs.Common.{◌≡◌, ◌≢◌, ◌⊎◌, ◌+◌, suc, inl, inr, Bool, true, false, cond, Decides, List, [], ◌∷◌, ◌++◌, map, filter, flat_map, length, Some, slice_get, refl, sym, ◌∙◌, ap, ap₂, subst, arith}
 use Rattle.std.specs.List.{list_any}
 use Rattle.std.proofs.lemmas.Bool.{cases_Bool, or_cases, false≢true}
 use Rattle.eir_term.specs.Lists.{◌∈◌, IsDistinct, without, distinct, place_of}
@@ -38,6 +38,11 @@ module _ {X : Type 0} where
   IsDistinct-filter p [] d = tt
   IsDistinct-filter p (x ∷ xs) d = elim (cases_Bool (p x))
       [ inl t ↦ rw t (λ h. d.0 (∈-filter_from p x xs h).0, IsDistinct-filter p xs d.1) | inr t ↦ rw t (IsDistinct-filter p xs d.1) ]
+
+  -- tests that agree on the elements keep the same ones
+  pub filter-agree : (p q : X → Bool) (xs : List X) → ((x : X) → x ∈ xs → p x ≡ q x) → filter p xs ≡ filter q xs
+  filter-agree p q [] e = refl
+  filter-agree p q (x ∷ xs) e = ap₂ (λ b ys. cond b (x ∷ ys) ys) (e x (inl refl)) (filter-agree p q xs (λ y i. e y (inr i)))
 
 module _ {X Y : Type 0} where
   pub ∈-map : (f : X → Y) (x : X) (xs : List X) → x ∈ xs → f x ∈ map f xs

@@ -1,16 +1,17 @@
 -- Laws of maps as lists of pairs. The points are what a look-up gives after a put (`get-append`), that a put and a set keep
 -- first members distinct (`IsDistinct-after_put`, `IsDistinct-after_set`), and that a map is the pairs of what it names
 -- with its images (`graph-domain_of`).
-use Rattle.std.proofs.Common.{◌≡◌, ℕ, zero, suc, ◌+◌, ◌<◌, Bool, false, cond, Some, None, get_or, take, drop, set, map, length, Vec, vec_len, arith, ◌∙◌, inl, inr, List, [], ◌∷◌, ◌++◌, refl, sym, ap, ap₂, subst}
+use Rattle.std.proofs.Common.{◌≡◌, ℕ, zero, suc, ◌+◌, ◌<◌, Bool, false, cond, Some, None, slice_get, get_or, take, drop, set, map, length, Vec, vec_len, arith, ◌∙◌, inl, inr, List, [], ◌∷◌, ◌++◌, refl, sym, ap, ap₂, subst}
 use Rattle.std.specs.Vec.{with_items}
 use Rattle.std.proofs.lemmas.List.{map-append, with_items_is}
 use Rattle.std.proofs.lemmas.Bool.{cases_Bool}
-use Rattle.std.proofs.lemmas.Option.{none-some}
+use Rattle.std.proofs.lemmas.Option.{none-some, same_Some}
 use Rattle.eir_term.specs.declared.val.Val.{Val}
 use Rattle.eir_term.specs.Lists.{◌∈◌, IsDistinct}
 use Rattle.eir_term.specs.Values.{val_eq, val_eq-decides}
-use Rattle.eir_term.specs.Maps.{domain_of, get, with_image, graph}
+use Rattle.eir_term.specs.Maps.{domain_of, get, with_image, image_at, with_image_at, graph}
 use Rattle.eir_term.proofs.ListLaws.{IsDistinct-push, apart-false, false-apart}
+use Rattle.eir_term.proofs.OrderLaws.{∈-slice_get_from}
 
 pub IsDistinct-put : (h : List (Val × Val)) (v w : Val) → IsDistinct (domain_of h) → (v ∈ domain_of h → ⊥) → IsDistinct (domain_of (h ++ (v, w) ∷ []))
 IsDistinct-put h v w d n = subst (λ vs. IsDistinct vs) (sym (map-append (λ (p : Val × Val). p.0) h ((v, w) ∷ []))) (IsDistinct-push (domain_of h) v d n)
@@ -49,12 +50,69 @@ domain_of-with_image [] v w = refl
 domain_of-with_image (p ∷ h) v w = elim (cases_Bool (val_eq p.0 v))
     [ inl t ↦ rw t (ap (λ vs. p.0 ∷ vs) (domain_of-with_image h v w)) | inr t ↦ rw t (ap (λ vs. p.0 ∷ vs) (domain_of-with_image h v w)) ]
 
+-- a map has no image for what it does not name
+pub with_image-absent : (h : List (Val × Val)) (v w : Val) → (v ∈ domain_of h → ⊥) → with_image h v w ≡ h
+with_image-absent [] v w absent = refl
+with_image-absent (p ∷ h) v w absent =
+    rw (apart-false val_eq val_eq-decides p.0 v (λ e. absent (inl (sym e)))) (ap (λ k. p ∷ k) (with_image-absent h v w (λ i. absent (inr i))))
+
 -- a list of the same first members was written over what a vector holds
 pub IsDistinct-after_set : {Z : Type 0} (inside : Vec (Val × Val) Z) (lent new : List (Val × Val)) (v w : Val) → lent ≡ inside.items → length lent ≡ vec_len inside → length new ≡ length lent →
     IsDistinct (domain_of inside.items) → new ≡ with_image lent v w → IsDistinct (domain_of (with_items inside new).items)
 IsDistinct-after_set inside lent new v w seen long same d e =
     subst (λ h. IsDistinct (domain_of h)) (sym (with_items_is inside new (same ∙ long)))
     (subst (λ vs. IsDistinct vs) (sym (ap domain_of e ∙ domain_of-with_image lent v w ∙ ap domain_of seen)) d)
+
+-- a pair was written over the one at a place of what the owner sees as old, with the same first member
+pub set-with_image_at : (old inside : List (Val × Val)) (n : ℕ) (w : Val) (p : Val × Val) → inside ≡ old → n < length old → p ≡ get_or inside n p → set inside n (p.0, w) ≡ with_image_at old n w
+set-with_image_at old inside n w p seen l e = step inside n (subst (λ h. n < length h) (sym seen) l) e ∙ ap (λ h. with_image_at h n w) seen
+  where
+    step : (h : List (Val × Val)) (n : ℕ) → n < length h → p ≡ get_or h n p → set h n (p.0, w) ≡ with_image_at h n w
+    step [] n l e = absurd (omega arith)
+    step (q ∷ h) zero l e = ap (λ (x : Val × Val). let y : Val × Val = (x.0, w) in y ∷ h) e
+    step (q ∷ h) (suc n) l e = ap (λ k. q ∷ k) (step h n (omega arith) e)
+
+-- an image at a place keeps the first members
+pub domain_of-with_image_at : (h : List (Val × Val)) (n : ℕ) (w : Val) → domain_of (with_image_at h n w) ≡ domain_of h
+domain_of-with_image_at [] n w = refl
+domain_of-with_image_at (p ∷ h) zero w = refl
+domain_of-with_image_at (p ∷ h) (suc n) w = ap (λ vs. p.0 ∷ vs) (domain_of-with_image_at h n w)
+
+pub length-with_image_at : (h : List (Val × Val)) (n : ℕ) (w : Val) → length (with_image_at h n w) ≡ length h
+length-with_image_at [] n w = refl
+length-with_image_at (p ∷ h) zero w = refl
+length-with_image_at (p ∷ h) (suc n) w = ap suc (length-with_image_at h n w)
+
+-- an image at the place after the first pairs leaves those, and what comes later
+pub with_image_at-append : (h k : List (Val × Val)) (p : Val × Val) (n : ℕ) (w : Val) → n ≡ length h → with_image_at (h ++ p ∷ k) n w ≡ h ++ (p.0, w) ∷ k
+with_image_at-append [] k p zero w e = refl
+with_image_at-append [] k p (suc n) w e = absurd (omega arith)
+with_image_at-append (q ∷ h) k p zero w e = absurd (omega arith)
+with_image_at-append (q ∷ h) k p (suc n) w e = ap (λ x. q ∷ x) (with_image_at-append h k p n w (omega arith))
+
+-- at that place stands the new image
+pub image_at-with_image_at : (h : List (Val × Val)) (n : ℕ) (w : Val) → n < length h → image_at (with_image_at h n w) n ≡ Some w
+image_at-with_image_at [] n w l = absurd (omega arith)
+image_at-with_image_at (p ∷ h) zero w l = refl
+image_at-with_image_at (p ∷ h) (suc n) w l = image_at-with_image_at h n w (omega arith)
+
+-- and each other place keeps its own
+pub image_at-with_image_at_other : (h : List (Val × Val)) (n k : ℕ) (w : Val) → (k ≡ n → ⊥) → image_at (with_image_at h n w) k ≡ image_at h k
+image_at-with_image_at_other [] n k w ne = refl
+image_at-with_image_at_other (p ∷ h) zero zero w ne = absurd (ne refl)
+image_at-with_image_at_other (p ∷ h) zero (suc k) w ne = refl
+image_at-with_image_at_other (p ∷ h) (suc n) zero w ne = refl
+image_at-with_image_at_other (p ∷ h) (suc n) (suc k) w ne = image_at-with_image_at_other h n k w (λ e. ne (ap suc e))
+
+-- where first members are distinct, an image at a place is the image of what stands there
+pub with_image_at-with_image : (h : List (Val × Val)) (n : ℕ) (v w : Val) → IsDistinct (domain_of h) → slice_get (domain_of h) n ≡ Some v → with_image_at h n w ≡ with_image h v w
+with_image_at-with_image [] n v w d e = absurd (none-some v e)
+with_image_at-with_image (p ∷ h) zero v w d e =
+    let q = same_Some p.0 v e in
+    rw ((val_eq-decides p.0 v).1 q) (ap (λ k. (p.0, w) ∷ k) (sym (with_image-absent h v w (λ i. d.0 (subst (λ u. u ∈ domain_of h) (sym q) i)))))
+with_image_at-with_image (p ∷ h) (suc n) v w d e =
+    rw (apart-false val_eq val_eq-decides p.0 v (λ q. d.0 (subst (λ u. u ∈ domain_of h) (sym q) (∈-slice_get_from v (domain_of h) n e))))
+    (ap (λ k. p ∷ k) (with_image_at-with_image h n v w d.1 e))
 
 -- what a map names has an image
 pub get-domain_of : (m : List (Val × Val)) (v : Val) → v ∈ domain_of m → (w : Val) × (get m v ≡ Some w)

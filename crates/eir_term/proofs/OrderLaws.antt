@@ -90,6 +90,18 @@ module _ {X Y : Type 0} (f : X → Option Y) where
   ∈-filter_map_from y (z ∷ xs) h = elim (∈-cons_option_cases (f z) y (filter_map f xs) h)
       [ inl e ↦ (z, inl refl, e) | inr k ↦ (let r = ∈-filter_map_from y xs k in (r.0, inr r.1, r.2)) ]
 
+  -- where f gives something of each element, it gives as many
+  pub length-filter_map : (xs : List X) → ((x : X) → x ∈ xs → (y : Y) × (f x ≡ Some y)) → length (filter_map f xs) ≡ length xs
+  length-filter_map [] each = refl
+  length-filter_map (x ∷ xs) each = let r = each x (inl refl) in rw r.1 (ap suc (length-filter_map xs (λ z i. each z (inr i))))
+
+  -- and what it gives of the first ones comes first
+  pub take-filter_map : (k : ℕ) (xs : List X) → ((x : X) → x ∈ xs → (y : Y) × (f x ≡ Some y)) → filter_map f (take k xs) ≡ take k (filter_map f xs)
+  take-filter_map zero [] each = refl
+  take-filter_map zero (x ∷ xs) each = refl
+  take-filter_map (suc k) [] each = refl
+  take-filter_map (suc k) (x ∷ xs) each = let r = each x (inl refl) in rw r.1 (ap (λ ys. r.0 ∷ ys) (take-filter_map k xs (λ z i. each z (inr i))))
+
   -- what f gives of a list in order is in order
   pub AllLater-filter_map : (R : X → X → Type 0) (S : Y → Y → Type 0) (xs : List X) → AllLater R xs →
       ((x y : X) (u v : Y) → x ∈ xs → y ∈ xs → R x y → f x ≡ Some u → f y ≡ Some v → S u v) → AllLater S (filter_map f xs)
@@ -184,6 +196,11 @@ pub ∈-places_from : {X : Type 0} (p : X → Bool) (n q : ℕ) (xs : List X) �
     by true t rest (inl e) = (0, x, omega arith, refl, t)
     by true t rest (inr k) = later (rest k)
     by false t rest k = later (rest k)
+
+-- where all elements pass, there are as many places
+pub length-places : {X : Type 0} (p : X → Bool) (n : ℕ) (xs : List X) → ((x : X) → x ∈ xs → p x ≡ true) → length (places p n xs) ≡ length xs
+length-places p n [] all = refl
+length-places p n (x ∷ xs) all = let t = all x (inl refl) in rw t (ap suc (length-places p (suc n) xs (λ y i. all y (inr i))))
 
 -- places ascend
 pub places-ascending : {X : Type 0} (p : X → Bool) (n : ℕ) (xs : List X) → AllLater (λ a b. a < b) (places p n xs)

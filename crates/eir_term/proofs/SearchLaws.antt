@@ -20,9 +20,9 @@ use Rattle.eir_term.specs.Search.{planned, map_of, tried_for, next_places, longe
 use Rattle.eir_term.specs.Order.{AllLater, IsBefore, KeepsFixed, AgreesWith, AreAllHoms}
 use Rattle.eir_term.proofs.ListLaws.{∈-append_cases, ∈-filter, ∈-filter_from, ∈-map, ∈-map_from, ∈-flat_map, ∈-flat_map_from}
 use Rattle.eir_term.proofs.MapLaws.{get-domain_of, ∈-domain_of, graph-domain_of}
-use Rattle.eir_term.proofs.HomLaws.{map-agree, ∈-values, ∈-values_from, Hom-graph, IsMorphism-agree, image-graph, domain_of-graph, fact_image-agree}
-use Rattle.eir_term.proofs.OrderLaws.{AllLater-filter, AllLater-distinct, AllLater-unique, AllLater-map, AllLater-flat_map, ∈-filter_map, ∈-filter_map_from, AllLater-filter_map, IsBefore-irrefl, IsBefore-apart, IsBefore-append, IsBefore-last, ∈-slice_get, ∈-slice_get_from, slice_get-below, take-slice_get, place_of-slice_get}
-use Rattle.eir_term.proofs.BindLaws.{Follows, Grows, FactsBind, AllBind-image, FactBinds-image, FactsBind-some, FactsBind-map, bind_facts-sound, bind_facts-complete}
+use Rattle.eir_term.proofs.HomLaws.{map-agree, map-agree_from, ∈-values, ∈-values_from, Hom-graph, IsMorphism-agree, image-graph, domain_of-graph, fact_image-agree}
+use Rattle.eir_term.proofs.OrderLaws.{AllLater-filter, AllLater-distinct, AllLater-unique, AllLater-map, AllLater-flat_map, ∈-filter_map, ∈-filter_map_from, AllLater-filter_map, length-filter_map, IsBefore-irrefl, IsBefore-apart, IsBefore-append, IsBefore-last, ∈-slice_get, ∈-slice_get_from, slice_get-below, take-slice_get, place_of-slice_get}
+use Rattle.eir_term.proofs.BindLaws.{Follows, Follows-keeps, Grows, FactsBind, AllBind-image, FactBinds-image, FactsBind-some, FactsBind-map, bind_facts-sound, bind_facts-complete}
 use Rattle.eir_term.proofs.PlanLaws.{∈-planned, ∈-planned_from, length-planned, candidates-within, candidates-ascending, candidates-complete}
 
 -- what a function makes of an option comes from what the option has
@@ -30,16 +30,9 @@ pub option_map-is : {X Y : Type 0} (f : X → Y) (o : Option X) (y : Y) → opti
 option_map-is f None y e = absurd (none-some y e)
 option_map-is f (Some x) y e = (x, refl, same_Some (f x) y e)
 
--- two functions with the same images on a list agree on its elements
-map-agree_from : {X Y : Type 0} (f g : X → Y) (x : X) (xs : List X) → map f xs ≡ map g xs → x ∈ xs → f x ≡ g x
-map-agree_from f g x [] e h = elim h [ ]
-map-agree_from f g x (y ∷ xs) e (inl p) = let head : f y ≡ g y = cc in ap f p ∙ head ∙ sym (ap g p)
-map-agree_from f g x (y ∷ xs) e (inr h) = let tail : map f xs ≡ map g xs = cc in map-agree_from f g x xs tail h
-
 -- places of B have as many facts
 pub length-facts_at : (B : List Fact) (ps : List ℕ) → ((p : ℕ) → p ∈ ps → (g : Fact) × (slice_get B p ≡ Some g)) → length (facts_at B ps) ≡ length ps
-length-facts_at B [] there = refl
-length-facts_at B (p ∷ ps) there = let r = there p (inl refl) in rw r.1 (ap suc (length-facts_at B ps (λ q i. there q (inr i))))
+length-facts_at B ps there = length-filter_map (slice_get B) ps there
 
 -- facts at places of B are facts of B
 ∈-facts_at_from : (B : List Fact) (ps : List ℕ) (g : Fact) → g ∈ facts_at B ps → g ∈ B
@@ -180,19 +173,12 @@ module _ (A B : List Fact) (start : List (Val × Val)) where
         let same : map_of A B start r.0 ≡ Some m = ap (bind_facts start (planned A B start)) r.3 ∙ bound.1 in
         let sound = bind_facts-sound start m (planned A B start) (map (fact_image g) (take (length A) (planned A B start))) bound.1 in
         let binds : FactsBind m (planned A B start) (map (fact_image g) (planned A B start)) = subst (λ fs. FactsBind m (planned A B start) (map (fact_image g) fs)) all sound.1 in
-        let still = (sound.0).keeps keeps in
+        let still = (sound.0).keeps (Follows-keeps g start mo.fixed follows) in
         let agree : (v : Val) → v ∈ values A → image m v ≡ g v = λ v i.
         let at = ∈-values_from v A i in
         map-agree_from (image m) g v (at.0).args (AllBind-image m (at.0).args (map g (at.0).args) still (FactsBind-map m (fact_image g) at.0 (planned A B start) binds (∈-planned A B start at.0 at.1)).1) at.2 in
         ∈-filter_map listed r.0 (graph g (values A)) (partials A B start (length A)) r.1
         (ap (option_map (λ m. graph (image m) (values A))) same ∙ ap Some (map-agree (λ v. (v, image m v)) (λ v. (v, g v)) (values A) (λ v i. ap (λ w. (v, w)) (agree v i))))
-      where
-        keeps : KeepsFixed start
-        keeps k = by (get start (Fixed k)) refl
-          where
-            by : (o : Option Val) → get start (Fixed k) ≡ o → unwrap_or o (Fixed k) ≡ Fixed k
-            by None e = refl
-            by (Some w) e = sym (follows (Fixed k) w e) ∙ mo.fixed k
 
   -- what lengthens a match stands in order
   longer-ascending : (ps : List ℕ) → AllLater IsBefore (longer A B start ps)

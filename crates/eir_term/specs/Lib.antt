@@ -14,6 +14,7 @@ pub mod Extension
 pub mod Faults
 pub mod Canonical
 pub mod Bind
+pub mod Profiles
 pub mod Plans
 pub mod Search
 pub mod Order

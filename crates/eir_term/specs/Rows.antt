@@ -8,7 +8,9 @@ use Rattle.eir_term.specs.declared.term.Term.{Term}
 use Rattle.eir_term.specs.declared.term.Term.TheVariants.{Var}
 use Rattle.eir_term.specs.declared.term.Atom.{Atom}
 use Rattle.eir_term.specs.Fitting.{DataExample}
-use Rattle.eir_term.specs.Search.{need}
+use Rattle.eir_term.specs.Profiles.{profile}
+use Rattle.eir_term.specs.Plans.{plan}
+use Rattle.eir_term.specs.Search.{need, pairneed}
 use Rattle.eir_term.specs.Verdicts.{verdict, foreign_at, no_fold_at, refuted, fits}
 
 -- relation 0 is of the source, relation 1 of the target
@@ -116,6 +118,52 @@ edge a b = source_fact (Const a ∷ Const b ∷ [])
 abbrev pub six_cycle : List Fact
 six_cycle = edge 1 2 ∷ edge 2 3 ∷ edge 3 4 ∷ edge 4 5 ∷ edge 5 6 ∷ edge 6 1 ∷ []
 
--- six candidates for the first fact, and six for each fact after it on each of six partial matches
-pub six_cycle-need : need six_cycle six_cycle [] ≡ 186
+-- six candidates for the first fact, and one for each fact after it on each of six partial matches
+pub six_cycle-need : need six_cycle six_cycle [] ≡ 36
 six_cycle-need = refl
+
+-- R(a,b), S(c), S(b) with R as relation 0 and S as relation 1
+abbrev pub chain : List Fact
+chain = source_fact (Const 0 ∷ Const 1 ∷ []) ∷ target_fact (Const 2 ∷ []) ∷ target_fact (Const 1 ∷ []) ∷ []
+
+-- both facts of one column come before the fact of two; the first of them stands first
+pub chain-plan : plan chain chain [] ≡ 1 ∷ 2 ∷ 0 ∷ []
+chain-plan = refl
+
+-- P(x), Q(x) and T(x), of the relations 0, 1 and 2
+abbrev pub p_fact : ℕ → Fact
+p_fact a = record { rel = 0; args = Const a ∷ [] }
+
+abbrev pub q_fact : ℕ → Fact
+q_fact a = record { rel = 1; args = Const a ∷ [] }
+
+abbrev pub t_fact : ℕ → Fact
+t_fact a = record { rel = 2; args = Const a ∷ [] }
+
+-- P(a), Q(a) with T(a)
+abbrev pub one_mark : DataExample
+one_mark = record { source = p_fact 0 ∷ q_fact 0 ∷ []; target = t_fact 0 ∷ [] }
+
+-- P(b1), P(b2), P(b3), Q(b3), Q(b4), Q(b5) with T(b3)
+abbrev pub many_marks : DataExample
+many_marks = record { source = p_fact 1 ∷ p_fact 2 ∷ p_fact 3 ∷ q_fact 3 ∷ q_fact 4 ∷ q_fact 5 ∷ []; target = t_fact 3 ∷ [] }
+
+-- b3 stands in both relations, and b1 in one
+pub both-profile : profile many_marks.source (Const 3) ≡ (0, 0) ∷ (1, 0) ∷ []
+both-profile = refl
+
+pub one-profile : profile many_marks.source (Const 1) ≡ (0, 0) ∷ []
+one-profile = refl
+
+-- what stands in both relations goes to what stands in both alone
+pub one_mark-need : pairneed one_mark one_mark ≡ 3
+one_mark-need = refl
+
+pub one_to_many-need : pairneed one_mark many_marks ≡ 3
+one_to_many-need = refl
+
+pub many_to_one-need : pairneed many_marks one_mark ≡ 7
+many_to_one-need = refl
+
+pub many_marks-need : pairneed many_marks many_marks ≡ 219
+many_marks-need = refl

@@ -1,5 +1,5 @@
 //! The argument list of a fact.
-ghost use Rattle.std.specs.Prelude.{◌≡◌, IfOk};
+ghost use Rattle.std.specs.Prelude.{◌≡◌, ◌≤◌, IfOk, length};
 
 use crate::{Memory, Val};
 use smallvec::SmallVec;
@@ -7,24 +7,28 @@ use std::alloc::Global;
 use std::hash::{Hash, Hasher};
 use std::marker::Model;
 
-/// The values of a fact, in order. Up to four stand in the fact itself.
+/// The values of a fact, in order, 1 to 16 of them. Up to four stand in the fact itself.
 #[derive(Drop)]
 pub struct Args {
     items: SmallVec<Val, 4>,
 }
 
 impl Model for Args {
-    ghost use Rattle.std.specs.Prelude.{List};
+    ghost use Rattle.std.specs.Prelude.{◌≤◌, List, length};
     ghost use Rattle.eir_term.specs.declared.val.Val.{Val};
 
     ghost Value = { List Val };
 
     ghost view = { λ a. a.items.items };
+
+    ghost invariant = { λ a. (1 ≤ length a.items.items) × (length a.items.items ≤ 16) };
 }
 
 impl Args {
-    /// These values.
+    /// These values, of which there are 1 to 16.
     pub(crate) fn make(alloc: Global, values: &[Val]) -> Result<Args, Memory>
+        requires some { 1 ≤ length values.now }
+        requires few { length values.now ≤ 16 }
         ensures { IfOk result (λ a. a ≡ values.now) }
     {
         let items = SmallVec::from_slice(alloc, values)?;
@@ -33,7 +37,9 @@ impl Args {
 
     /// The values, lent.
     pub fn as_slice(&self) -> &[Val]
-        ensures { result.now ≡ self.now }
+        ensures values { result.now ≡ self.now }
+        ensures some { 1 ≤ length result.now }
+        ensures few { length result.now ≤ 16 }
     {
         self.items.as_slice()
     }

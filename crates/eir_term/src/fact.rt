@@ -22,6 +22,17 @@ impl Fact {
         let args = Args::make(alloc, args)?;
         Ok(Fact { rel, args })
     }
+
+    /// An equal fact.
+    pub fn copy(&self, alloc: Global) -> Result<Fact, Memory>
+        ensures { IfOk result (λ f. f ≡ self.now) }
+    {
+        let args = Args::make(alloc, self.args.as_slice())?;
+        Ok(Fact {
+            rel: self.rel,
+            args,
+        })
+    }
 }
 
 impl PartialEq for Fact {

@@ -3,8 +3,8 @@
 //!
 //! The types are plain data. What is believed stands in `specs/`, in this order of reading: `Lists`, `Values`,
 //! `Facts`, `Instances`, `Maps`, `Homs`, `Dependencies`, `Satisfaction`, `Universal`, `Fitting`, `Implication`,
-//! `Extension`, `Faults`, `Canonical`, `Bind`, `Plans`, `Search`, `Order`, `Verdicts`; `Headline` says of them what
-//! the program is for, and `Rows` computes them on worked examples. `docs/definitions.md` has them in prose.
+//! `Extension`, `Faults`, `Canonical`, `Bind`, `Profiles`, `Plans`, `Search`, `Order`, `Verdicts`; `Headline` says of
+//! them what the program is for, and `Rows` computes them on worked examples. `docs/definitions.md` has them in prose.
 //!
 //! # What a contract sees
 //!

@@ -1,7 +1,7 @@
 //! Maps of values.
-ghost use Rattle.std.specs.Prelude.{◌≡◌, ◌++◌, ◌∷◌, [], IfOk, OnOk, OnErr, length, slice_get};
-ghost use Rattle.eir_term.specs.Lists.{◌∈◌};
-ghost use Rattle.eir_term.specs.Maps.{domain_of, get, with_image};
+ghost use Rattle.std.specs.Prelude.{◌≡◌, ◌++◌, ◌∷◌, [], ◌<◌, IfOk, OnOk, OnErr, length, slice_get, Some};
+ghost use Rattle.eir_term.specs.Lists.{◌∈◌, IsDistinct};
+ghost use Rattle.eir_term.specs.Maps.{domain_of, get, with_image, image_at, with_image_at};
 
 use crate::{Memory, Val};
 use std::alloc::Global;
@@ -50,6 +50,14 @@ impl Map {
         self.pairs.get(place).copied()
     }
 
+    /// The pairs, lent, for callers that go over all of them.
+    pub fn as_slice(&self) -> &[(Val, Val)]
+        ensures pairs { result.now ≡ self.now }
+        ensures distinct { IsDistinct (domain_of self.now) }
+    {
+        self.pairs.as_slice()
+    }
+
     /// What `v` is paired with. It looks through the pairs in order.
     pub fn get(&self, v: Val) -> Option<Val>
         ensures { result ≡ get self.now v }
@@ -73,6 +81,23 @@ impl Map {
         ensures { self.new ≡ with_image self.old v w }
     {
         set_image_in(&mut self.pairs, v, w);
+    }
+
+    /// The second member at a place, counted from 0. Nothing is looked for.
+    pub fn image_at(&self, place: usize) -> Val
+        requires { place < length self.now }
+        ensures { image_at self.now place ≡ Some result }
+    {
+        let (_, image) = self.pairs[place];
+        image
+    }
+
+    /// Makes `w` the second member at a place, counted from 0. Nothing is looked for, and no memory is taken.
+    pub fn set_at(&mut self, place: usize, w: Val)
+        requires { place < length self.old }
+        ensures { self.new ≡ with_image_at self.old place w }
+    {
+        self.pairs[place].1 = w;
     }
 
     /// An equal map.

@@ -45,5 +45,10 @@ fn maps(rt: HostRuntime) -> Result<(), Fail> {
     assert_eq!(rt; map.len(), 2);
     assert_eq!(rt; map.pair(1), Some((Val::Null(0), Val::Const(5))));
     assert_eq!(rt; map.pair(2), None);
+    assert_eq!(rt; map.image_at(1), Val::Const(5));
+    map.set_at(1, Val::Const(8));
+    assert_eq!(rt; map.image_at(0), Val::Null(6));
+    assert_eq!(rt; map.image_at(1), Val::Const(8));
+    assert_eq!(rt; map.pair(1), Some((Val::Null(0), Val::Const(8))));
     Ok(())
 }

@@ -46,6 +46,10 @@ pub IsDistinct-filter : (p : Val → Bool) (xs : List Val) → IsDistinct xs →
 IsDistinct-filter p [] d = tt
 IsDistinct-filter p (x ∷ xs) d = elim (cases_Bool (p x)) [ inl t ↦ rw t (λ h. d.0 (∈-filter_from p x xs h).0, IsDistinct-filter p xs d.1) | inr t ↦ rw t (IsDistinct-filter p xs d.1) ]
 
+-- the constants of an instance are distinct
+pub insert_all-consts : (I : List Fact) → insert_all val_eq [] (consts I) ≡ consts I
+insert_all-consts I = insert_all-apart [] (consts I) (IsDistinct-filter is_const (values I) (IsDistinct-values I)) (λ v h k. k)
+
 -- the constants of one instance and the nulls of another
 pub insert_all-variables : (I J : List Fact) → insert_all val_eq (consts I) (nulls J) ≡ consts I ++ nulls J
 insert_all-variables I J = insert_all-apart (consts I) (nulls J) (IsDistinct-filter is_null (values J) (IsDistinct-values J))

@@ -17,13 +17,12 @@ use Rattle.eir_term.specs.Facts.{fact_eq, fact_eq-decides}
 use Rattle.eir_term.specs.Lists.{◌∈◌}
 use Rattle.eir_term.proofs.ListLaws.{∈-append_cases, ∈-list_any, ∈-list_any_from, ∈-map, ∈-map_from}
 use Rattle.eir_inst.specs.BoundedFacts.{BoundedFacts}
-use Rattle.eirene.specs.declared.examples.Sides.{Sides}
 use Rattle.eirene.specs.declared.refusal.Cause.TheVariants.{Taken, Example, There, Full}
 use Rattle.eirene.specs.declared.refusal.Refusal.{Refusal}
 use Rattle.eirene.specs.Workspaces.{NamedExample, find_example, changed, put_on, entry_tests, new_tests, first_cause, with_example, with_fact}
 use Rattle.eirene.specs.Bounds.{IsSmallFact, IsBounded}
 use Rattle.eirene.specs.Causes.{IsCaused}
-use Rattle.eirene.specs.ExampleParts.{example_with, examples_of, empty_sides, instance_on, grown, with_last, side_tests, AreKept}
+use Rattle.eirene.specs.ExampleParts.{Sides, example_with, examples_of, empty_sides, instance_on, grown, with_last, side_tests, AreKept}
 use Rattle.eirene.proofs.CauseLaws.{NoneHolds-from_none}
 use Rattle.eirene.proofs.TableLaws.{none-from_is_some, ∈-lookup, ∈-set_value}
 

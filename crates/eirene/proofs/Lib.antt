@@ -16,9 +16,11 @@ pub mod PositionLaws
 pub mod PrintLaws
 pub mod PromiseLaws
 pub mod ReadingLaws
+pub mod RefutingLaws
 pub mod ReplyLaws
 pub mod SchemaLaws
 pub mod ScriptLaws
+pub mod StartLaws
 pub mod TableLaws
 pub mod ValueLaws
 pub mod VerdictLaws

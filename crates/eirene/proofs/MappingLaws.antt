@@ -1,8 +1,7 @@
 -- The canonical mapping of examples, one after another.
-use Rattle.std.proofs.Common.{◌≡◌, ℕ, zero, suc, ◌+◌, inl, inr, Some, List, [], ◌∷◌, ◌++◌, map, take, slice_get, refl, ◌∙◌, sym, ap, ap₂, subst}
+use Rattle.std.proofs.Common.{◌≡◌, ℕ, zero, suc, ◌+◌, inl, inr, Some, List, [], ◌∷◌, ◌++◌, map, take, slice_get, refl, ◌∙◌, sym, ap, subst}
 use Rattle.std.proofs.lemmas.List.{flat_map_more}
 use Rattle.std.proofs.lemmas.Option.{none-some, same_Some}
-use Rattle.eir_term.specs.declared.fact.Fact.{Fact}
 use Rattle.eir_term.specs.Dependencies.{Dependency}
 use Rattle.eir_term.specs.Fitting.{DataExample}
 use Rattle.eir_term.specs.Canonical.{glav_dependency, unless_empty, canon_glav}
@@ -25,14 +24,8 @@ IsBoundedAt-place (x ∷ xs) zero e b h =
     subst IsBoundedAt (same_Some (data_example x) e h) q
 IsBoundedAt-place (x ∷ xs) (suc i) e b h = IsBoundedAt-place xs i e (λ y k. b y (inr k)) h
 
--- an example from its instances
-pub example-of : (s t : List Fact) (e : DataExample) → s ≡ e.source → t ≡ e.target → (let x : DataExample = record { source = s; target = t } in x) ≡ e
-example-of s t e p q = ap₂ (λ a b. let x : DataExample = record { source = a; target = b } in x) p q
-
 -- the mapping of one example more
-pub canon-more : (E : List DataExample) (i : ℕ) (e : DataExample) (s t : List Fact) (old new : List Dependency) → slice_get E i ≡ Some e → s ≡ e.source → t ≡ e.target →
-    old ≡ canon_glav (take i E) → new ≡ old ++ unless_empty t (glav_dependency (record { source = s; target = t })) → new ≡ canon_glav (take (i + 1) E)
-canon-more E i e s t old new here p q o n =
-    n ∙ ap₂ (λ ds x. ds ++ unless_empty x.target (glav_dependency x)) o (example-of s t e p q)
-    ∙ flat_map_more (λ x. unless_empty x.target (glav_dependency x)) [] (take i E) e
-    ∙ ap canon_glav (sym (take-at E i e here))
+pub canon-more : (E : List DataExample) (i : ℕ) (e : DataExample) (old new : List Dependency) → slice_get E i ≡ Some e → old ≡ canon_glav (take i E) → new ≡ old ++ unless_empty e.target (glav_dependency e) →
+    new ≡ canon_glav (take (i + 1) E)
+canon-more E i e old new here o n =
+    n ∙ ap (λ ds. ds ++ unless_empty e.target (glav_dependency e)) o ∙ flat_map_more (λ x. unless_empty x.target (glav_dependency x)) [] (take i E) e ∙ ap canon_glav (sym (take-at E i e here))

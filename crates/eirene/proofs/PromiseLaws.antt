@@ -1,17 +1,16 @@
 -- Each `fit` line is answered as the headline says: `fits_are_right`, for every input.
-use Rattle.std.proofs.Common.{◌≡◌, ◌∙◌, ◌++◌, ap, sym, subst, ℕ, List, ◌∷◌, Some, append_assoc}
+use Rattle.std.proofs.Common.{◌≡◌, ◌∙◌, ◌++◌, ap, ℕ, List, ◌∷◌, append_assoc}
 use Rattle.eir_term.specs.declared.val.Kind.TheVariants.{Glav}
 use Rattle.eir_term.specs.Fitting.{DataExample}
-use Rattle.eir_term.specs.Verdicts.{Finding, verdict}
+use Rattle.eir_term.specs.Verdicts.{verdict}
 use Rattle.eir_term.proofs.HeadlineLaws.{headline}
 use Rattle.eirene.specs.Lines.{cut}
 use Rattle.eirene.specs.Grammar.{Says, fit}
-use Rattle.eirene.specs.Reading.{reading}
 use Rattle.eirene.specs.Workspaces.{Workspace, empty_workspace, present}
 use Rattle.eirene.specs.Replies.{reply_by, next}
 use Rattle.eirene.specs.Texts.{reply_text, finding_text}
 use Rattle.eirene.specs.Scripts.{workspace_after, replies, line_reply, unended_reply, output_of}
-use Rattle.eirene.specs.Promise.{FitIsRight, FitsAreRight}
+use Rattle.eirene.specs.Promise.{FitsAreRight}
 use Rattle.eirene.proofs.GrammarLaws.{says-reading}
 use Rattle.eirene.proofs.KeptLaws.{AreSources-lines, AreSources-present}
 use Rattle.eirene.proofs.ScriptLaws.{replies-append}

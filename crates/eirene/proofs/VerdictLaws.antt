@@ -1,19 +1,20 @@
 -- The first of a list that is found, by a loop over its places.
-use Rattle.std.proofs.Common.{◌≡◌, ℕ, suc, ◌+◌, ◌<◌, ◌≤◌, Bool, true, false, Option, Some, None, unwrap_or, List, [], ◌∷◌, ◌++◌, filter, find, length, get_or, take, drop, slice_get, refl, sym, ◌∙◌, ap, ap₂, inl, inr, drop-cons, arith}
-use Rattle.std.proofs.lemmas.List.{drop_all, map_more}
+use Rattle.std.proofs.Common.{◌≡◌, ◌↔◌, not, is_some, IsSome, subst, ℕ, suc, ◌+◌, ◌<◌, ◌≤◌, Bool, true, false, Option, Some, None, List, [], ◌∷◌, filter, find, length, get_or, drop, slice_get, refl, sym, ◌∙◌, ap, inl, inr, drop-cons, arith}
+use Rattle.std.specs.List.{list_any}
+use Rattle.std.proofs.lemmas.List.{drop_all}
 use Rattle.std.proofs.lemmas.Bool.{cases_Bool, false≢true}
 use Rattle.std.proofs.lemmas.Option.{none-some}
 use Rattle.eir_term.specs.declared.val.Val.{Val}
-use Rattle.eir_term.specs.declared.val.Val.TheVariants.{Fixed}
+use Rattle.eir_term.specs.declared.val.Val.TheVariants.{Const, Fixed}
 use Rattle.eir_term.specs.declared.fact.Fact.{Fact}
-use Rattle.eir_term.specs.Values.{is_const}
+use Rattle.eir_term.specs.Values.{is_const, val_eq, val_eq-decides}
 use Rattle.eir_term.specs.Instances.{values, consts}
-use Rattle.eir_term.specs.Maps.{get, image, graph}
-use Rattle.eir_term.specs.Search.{homs}
+use Rattle.eir_term.specs.Maps.{image, graph}
 use Rattle.eir_term.specs.Order.{KeepsFixed}
 use Rattle.eir_term.specs.Verdicts.{Finding, or_else, first_finding}
-use Rattle.eir_term.proofs.ListLaws.{∈-filter_from}
-use Rattle.eir_term.proofs.HomLaws.{image-graph_none}
+use Rattle.eir_term.specs.Lists.{◌∈◌}
+use Rattle.eir_term.proofs.ListLaws.{∈-filter_from, ∈-list_any, ∈-list_any_from}
+use Rattle.eir_term.proofs.HomLaws.{image-graph_none, ∈-consts, consts-values}
 use Rattle.eirene.proofs.ItemLaws.{drop-at}
 
 -- what is not something is nothing
@@ -80,12 +81,21 @@ module _ {X : Type 0} (test : ℕ → X → Option Finding) where
 pub KeepsFixed-start : (h start : List (Val × Val)) (K : List Fact) → start ≡ graph (image h) (consts K) → KeepsFixed start
 KeepsFixed-start h start K e n = ap (λ m. image m (Fixed n)) e ∙ image-graph_none (image h) (Fixed n) (consts K) (λ i. absurd (false≢true (∈-filter_from is_const (Fixed n) (values K) i).1))
 
--- a list of homomorphisms between instances that are seen as these
-pub listed-homs : (A B K L : List Fact) (items hs : List (List (Val × Val))) (start : List (Val × Val)) → items ≡ hs → hs ≡ homs K L start → K ≡ A → L ≡ B → start ≡ [] → items ≡ homs A B []
-listed-homs A B K L items hs start e h k l s = e ∙ h ∙ ap₂ (λ K L. homs K L start) k l ∙ ap (λ m. homs A B m) s
+-- ---- the foreign constants
 
--- the graph on one value more
-pub graph-more : (h : List (Val × Val)) (vs : List Val) (i : ℕ) (d w : Val) (got : Option Val) (old new : List (Val × Val)) → i < length vs → old ≡ graph (image h) (take i vs) →
-    got ≡ get h (get_or vs i d) → w ≡ unwrap_or got (get_or vs i d) → new ≡ old ++ (get_or vs i d, w) ∷ [] → new ≡ graph (image h) (take (i + 1) vs)
-graph-more h vs i d w got old new l e g f n =
-    n ∙ ap₂ (λ m u. m ++ (get_or vs i d, u) ∷ []) e (f ∙ ap (λ o. unwrap_or o (get_or vs i d)) g) ∙ sym (map_more (λ v. (v, image h v)) vs i d l)
+module _ (K : List Fact) (v : Val) (n : ℕ) (o : Option ℕ) (is : v ≡ Const n) (there : IsSome o ↔ (Const n ∈ values K)) where
+  -- a constant that has no number among the values is foreign
+  pub foreign-found : is_some o ≡ false → Some (Const n) ≡ find (λ c. not (list_any (val_eq c) (consts K))) (filter is_const (v ∷ []))
+  foreign-found none =
+      subst (λ u. Some (Const n) ≡ find (λ c. not (list_any (val_eq c) (consts K))) (filter is_const (u ∷ []))) (sym is)
+      (rw (absent (list_any (val_eq (Const n)) (consts K)) refl))
+    where
+      absent : (b : Bool) → list_any (val_eq (Const n)) (consts K) ≡ b → list_any (val_eq (Const n)) (consts K) ≡ false
+      absent false e = e
+      absent true e = absurd (false≢true (sym none ∙ there.1 (consts-values (Const n) K (∈-list_any_from val_eq val_eq-decides (Const n) (consts K) e))))
+
+  -- one that has a number is not
+  pub foreign-passed : is_some o ≡ true → None ≡ find (λ c. not (list_any (val_eq c) (consts K))) (filter is_const (v ∷ []))
+  foreign-passed some =
+      subst (λ u. None ≡ find (λ c. not (list_any (val_eq c) (consts K))) (filter is_const (u ∷ []))) (sym is)
+      (rw (∈-list_any val_eq val_eq-decides (Const n) (consts K) (∈-consts n K (there.0 some))))

@@ -1,4 +1,5 @@
 -- The examples as a table of names in memory holds them (this project's own).
+--   Sides                == the two instances of an example
 --   example_with name s  == the example of this name with these instances
 --   examples_of es       == the examples of a table from names to instances
 --   with_last f i        == the instance with a fact more
@@ -17,9 +18,13 @@ use Rattle.eir_term.specs.Facts.{fact_eq}
 use Rattle.eir_inst.specs.BoundedFacts.{BoundedFacts}
 use Rattle.eirene.specs.declared.refusal.Cause.{Cause}
 use Rattle.eirene.specs.declared.refusal.Cause.TheVariants.{There, Full}
-use Rattle.eirene.specs.declared.examples.Sides.{Sides}
 use Rattle.eirene.specs.Workspaces.{NamedExample}
 use Rattle.eirene.specs.Bounds.{AreBounded}
+
+-- the two instances of an example
+pub record Sides : Type 0 where
+  pub source : BoundedFacts
+  pub target : BoundedFacts
 
 -- the example of this name with these instances
 abbrev pub example_with : List ℕ → Sides → NamedExample

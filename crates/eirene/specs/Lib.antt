@@ -22,4 +22,5 @@ pub mod Findings
 pub mod Forms
 pub mod SchemaParts
 pub mod ExampleParts
+pub mod Constants
 pub mod Kept

@@ -26,16 +26,15 @@ pub struct Dep {
 
 /// All source facts imply all target facts, with a variable for each constant of the source and an existential one
 /// for each null of the target (Alexe, ten Cate, Kolaitis, Tan 2011).
-pub fn glav_dependency(alloc: Global, source: &[Fact], target: &[Fact]) -> Result<Dep, Memory>
-    requires few { FewVariables (record { source = source.now; target = target.now }) }
-    requires small_source { (f : Fact) → f ∈ source.now → IsSmallFact f }
-    requires small_target { (f : Fact) → f ∈ target.now → IsSmallFact f }
-    ensures { IfOk result (λ d. dependency_of d
-        ≡ glav_dependency (record { source = source.now; target = target.now })) }
+pub fn glav_dependency(alloc: Global, example: &DataExample) -> Result<Dep, Memory>
+    requires few { FewVariables example.now }
+    requires small_source { (f : Fact) → f ∈ example.now.source → IsSmallFact f }
+    requires small_target { (f : Fact) → f ∈ example.now.target → IsSmallFact f }
+    ensures { IfOk result (λ d. dependency_of d ≡ glav_dependency example.now) }
 {
-    let (variables, exists) = variables(alloc, source, target)?;
-    let premise = atoms(alloc, &variables, source)?;
-    let conclusion = atoms(alloc, &variables, target)?;
+    let (variables, exists) = variables(alloc, example)?;
+    let premise = atoms(alloc, &variables, example.source().as_slice())?;
+    let conclusion = atoms(alloc, &variables, example.target().as_slice())?;
     Ok(Dep {
         premise,
         exists,
@@ -50,12 +49,7 @@ pub fn canonical_mapping(alloc: Global, examples: &Examples) -> Result<Vec<Dep>,
     let mut mapping = Vec::new(alloc);
     for place in 0..examples.len() {
         let example = DataExample::at(examples, place);
-        push_dependency(
-            alloc,
-            &mut mapping,
-            example.source().as_slice(),
-            example.target().as_slice(),
-        )?;
+        push_dependency(alloc, &mut mapping, &example)?;
     }
     Ok(mapping)
 }
@@ -64,35 +58,33 @@ pub fn canonical_mapping(alloc: Global, examples: &Examples) -> Result<Vec<Dep>,
 fn push_dependency(
     alloc: Global,
     mapping: &mut Vec<Dep>,
-    source: &[Fact],
-    target: &[Fact],
+    example: &DataExample,
 ) -> Result<(), Memory>
-    requires few { FewVariables (record { source = source.now; target = target.now }) }
-    requires small_source { (f : Fact) → f ∈ source.now → IsSmallFact f }
-    requires small_target { (f : Fact) → f ∈ target.now → IsSmallFact f }
+    requires few { FewVariables example.now }
+    requires small_source { (f : Fact) → f ∈ example.now.source → IsSmallFact f }
+    requires small_target { (f : Fact) → f ∈ example.now.target → IsSmallFact f }
     ensures { OnOk result (map dependency_of mapping.new.items ≡ map dependency_of mapping.old.items
-        ++ unless_empty target.now (glav_dependency (record { source = source.now; target = target.now }))) }
+        ++ unless_empty example.now.target (glav_dependency example.now)) }
 {
-    match target {
+    match example.target().as_slice() {
         [] => {}
-        [_, ..] => mapping.push(glav_dependency(alloc, source, target)?)?,
+        [_, ..] => mapping.push(glav_dependency(alloc, example)?)?,
     }
     Ok(())
 }
 
 /// What becomes a variable, with the numbers of the existential ones. The variable of a value is its place, from 1.
-fn variables(
-    alloc: Global,
-    source: &[Fact],
-    target: &[Fact],
-) -> Result<(IndexSet<Val>, Vec<u32>), Memory>
-    requires { FewVariables (record { source = source.now; target = target.now }) }
-    ensures all { IfOk result (λ r. r.0.keys ≡ variables (record { source = source.now; target = target.now })) }
-    ensures exists { IfOk result (λ r. r.1.items ≡ numbers (length (consts source.now)) (nulls target.now)) }
+fn variables(alloc: Global, example: &DataExample) -> Result<(IndexSet<Val>, Vec<u32>), Memory>
+    requires { FewVariables example.now }
+    ensures all { IfOk result (λ r. r.0.keys ≡ variables example.now) }
+    ensures exists { IfOk result (λ r. r.1.items
+        ≡ numbers (length (consts example.now.source)) (nulls example.now.target)) }
 {
-    let mut variables = constants_of(alloc, source)?;
-    let nulls = nulls_of(alloc, target)?;
-    let exists = numbers(alloc, variables.len(), nulls.as_slice())?;
+    let constants = constants_of(alloc, example.source())?;
+    let nulls = nulls_of(alloc, example.target())?;
+    let exists = numbers(alloc, constants.len(), &nulls)?;
+    let mut variables = IndexSet::new(alloc);
+    variables.extend(constants.as_slice())?;
     variables.extend(nulls.as_slice())?;
     Ok((variables, exists))
 }

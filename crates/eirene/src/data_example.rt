@@ -5,12 +5,13 @@ ghost use Rattle.eirene.specs.Workspaces.{data_example};
 use crate::examples::Examples;
 use eir_inst::Instance;
 use std::marker::Model;
+use std::rc::Rc;
 
 /// A source instance with a target instance, lent (Alexe, ten Cate, Kolaitis, Tan 2011).
 #[derive(Drop)]
 pub struct DataExample<'a> {
-    source: &'a Instance,
-    target: &'a Instance,
+    source: &'a Rc<Instance>,
+    target: &'a Rc<Instance>,
 }
 
 impl<'a> Model for DataExample<'a> {
@@ -18,7 +19,7 @@ impl<'a> Model for DataExample<'a> {
 
     ghost Value = { Example };
 
-    ghost view = { λ e. record { source = e.source.now.facts; target = e.target.now.facts } };
+    ghost view = { λ e. record { source = e.source.now.value.facts; target = e.target.now.value.facts } };
 }
 
 impl DataExample<'_> {
@@ -34,15 +35,15 @@ impl DataExample<'_> {
     }
 
     /// Its source instance.
-    pub fn source(&self) -> &Instance
-        ensures { result.now.facts ≡ self.now.source }
+    pub fn source(&self) -> &Rc<Instance>
+        ensures { result.now.value.facts ≡ self.now.source }
     {
         self.source
     }
 
     /// Its target instance.
-    pub fn target(&self) -> &Instance
-        ensures { result.now.facts ≡ self.now.target }
+    pub fn target(&self) -> &Rc<Instance>
+        ensures { result.now.value.facts ≡ self.now.target }
     {
         self.target
     }

@@ -1,5 +1,5 @@
 //! The present examples.
-ghost use Rattle.std.specs.Prelude.{◌≡◌, ◌≤◌, [], None, IfErr, OnOk, OnErr, length, option_map, slice_get};
+ghost use Rattle.std.specs.Prelude.{◌≡◌, ◌≤◌, [], None, IfErr, IfOk, OnOk, OnErr, length, option_map, slice_get};
 ghost use Rattle.eirene.specs.Workspaces.{entry_tests, find_example, first_cause, new_tests};
 ghost use Rattle.eirene.specs.Workspaces.{with_example, with_fact};
 ghost use Rattle.eirene.specs.Bounds.{AreBounded, IsSmallFact};
@@ -8,10 +8,11 @@ ghost use Rattle.eirene.specs.ExampleParts.{empty_sides, grown, instance_on, sid
 
 use crate::refusal::{Cause, Refusal};
 use eir_inst::{InsertRefused, Instance};
-use eir_term::{Fact, Side, Text};
+use eir_term::{Fact, Memory, Side, Text};
 use indexmap::IndexMap;
 use std::alloc::Global;
 use std::marker::Model;
+use std::rc::Rc;
 
 /// The most examples.
 const EXAMPLE_LIMIT: usize = 64;
@@ -19,11 +20,19 @@ const EXAMPLE_LIMIT: usize = 64;
 /// The most facts of an instance.
 const FACT_LIMIT: u64 = 512;
 
-/// The two instances of an example.
+/// The two instances of an example, as searches share them.
 #[derive(Drop)]
 struct Sides {
-    source: Instance,
-    target: Instance,
+    source: Rc<Instance>,
+    target: Rc<Instance>,
+}
+
+impl Model for Sides {
+    ghost use Rattle.eirene.specs.ExampleParts.{Sides as Instances};
+
+    ghost Value = { Instances };
+
+    ghost view = { λ s. record { source = s.source.value; target = s.target.value } };
 }
 
 /// The examples in order, each with its name. A look-up goes by the hash of the name.
@@ -80,7 +89,8 @@ impl Examples {
             return Err(Refusal::For(Cause::Full(EXAMPLE_LIMIT as u64)));
         }
         let name = name.bytes().to_vec(self.alloc)?;
-        self.sides.insert(name, Sides::new(self.alloc))?;
+        let sides = Sides::new(self.alloc)?;
+        self.sides.insert(name, sides)?;
         Ok(())
     }
 
@@ -96,7 +106,7 @@ impl Examples {
         let Some(sides) = self.sides.get_mut(name.bytes()) else {
             return Err(Refusal::For(Cause::Example));
         };
-        sides.put(side, fact)
+        sides.put(self.alloc, side, fact)
     }
 
     /// The name of the example at a place, counted from 0.
@@ -110,8 +120,8 @@ impl Examples {
     }
 
     /// The source instance of the example at a place, counted from 0.
-    pub fn source(&self, place: usize) -> Option<&Instance>
-        ensures { option_map (λ i. i.now.facts) result ≡ option_map (λ x. x.source) (slice_get self.now place) }
+    pub fn source(&self, place: usize) -> Option<&Rc<Instance>>
+        ensures { option_map (λ i. i.now.value.facts) result ≡ option_map (λ x. x.source) (slice_get self.now place) }
     {
         match self.sides.get_index(place) {
             Some((_, sides)) => Some(&sides.source),
@@ -120,8 +130,8 @@ impl Examples {
     }
 
     /// The target instance of the example at a place, counted from 0.
-    pub fn target(&self, place: usize) -> Option<&Instance>
-        ensures { option_map (λ i. i.now.facts) result ≡ option_map (λ x. x.target) (slice_get self.now place) }
+    pub fn target(&self, place: usize) -> Option<&Rc<Instance>>
+        ensures { option_map (λ i. i.now.value.facts) result ≡ option_map (λ x. x.target) (slice_get self.now place) }
     {
         match self.sides.get_index(place) {
             Some((_, sides)) => Some(&sides.target),
@@ -132,17 +142,16 @@ impl Examples {
 
 impl Sides {
     /// No fact on either side.
-    fn new(alloc: Global) -> Sides
-        ensures { result ≡ empty_sides }
+    fn new(alloc: Global) -> Result<Sides, Memory>
+        ensures { IfOk result (λ s. s ≡ empty_sides) }
     {
-        Sides {
-            source: Instance::new(alloc, FACT_LIMIT),
-            target: Instance::new(alloc, FACT_LIMIT),
-        }
+        let source = Rc::new(alloc, Instance::new(alloc, FACT_LIMIT))?;
+        let target = Rc::new(alloc, Instance::new(alloc, FACT_LIMIT))?;
+        Ok(Sides { source, target })
     }
 
     /// Puts a fact into the instance of a side, which may have 512 of them.
-    fn put(&mut self, side: Side, fact: Fact) -> Result<(), Refusal>
+    fn put(&mut self, alloc: Global, side: Side, fact: Fact) -> Result<(), Refusal>
         requires limited { (instance_on side self.old).limit ≡ 512 }
         requires few { length (instance_on side self.old).facts ≤ 512 }
         ensures ok { OnOk result ((first_cause (side_tests fact (instance_on side self.old).facts) ≡ None)
@@ -152,14 +161,33 @@ impl Sides {
         ensures err { OnErr result (self.new ≡ self.old) }
     {
         match side {
-            Side::Source => insert(&mut self.source, fact),
-            Side::Target => insert(&mut self.target, fact),
+            Side::Source => insert(alloc, &mut self.source, fact),
+            Side::Target => insert(alloc, &mut self.target, fact),
         }
     }
 }
 
+/// Puts a fact into an instance that may have 512 of them. Where it has another owner, a copy takes its place, and
+/// else it is written to as it stands.
+fn insert(alloc: Global, shared: &mut Rc<Instance>, fact: Fact) -> Result<(), Refusal>
+    requires limited { shared.old.value.limit ≡ 512 }
+    requires few { length shared.old.value.facts ≤ 512 }
+    ensures ok { OnOk result ((first_cause (side_tests fact shared.old.value.facts) ≡ None)
+        × (shared.new.value ≡ with_last fact shared.old.value)) }
+    ensures caused { IfErr result (λ e. IsCaused e (first_cause (side_tests fact shared.old.value.facts))) }
+    ensures err { OnErr result (shared.new.value ≡ shared.old.value) }
+{
+    if let Some(instance) = Rc::get_mut(shared) {
+        return insert_in(instance, fact);
+    }
+    let mut copy = shared.copy()?;
+    insert_in(&mut copy, fact)?;
+    *shared = Rc::new(alloc, copy)?;
+    Ok(())
+}
+
 /// Puts a fact into an instance that may have 512 of them.
-fn insert(instance: &mut Instance, fact: Fact) -> Result<(), Refusal>
+fn insert_in(instance: &mut Instance, fact: Fact) -> Result<(), Refusal>
     requires limited { instance.old.limit ≡ 512 }
     requires few { length instance.old.facts ≤ 512 }
     ensures ok { OnOk result ((first_cause (side_tests fact instance.old.facts) ≡ None)

@@ -1,20 +1,25 @@
 //! The verdict on the present examples.
-ghost use Rattle.std.specs.Prelude.{◌≡◌, IfOk, option_map, map};
+ghost use Rattle.std.specs.Prelude.{◌≡◌, ◌<◌, IfOk, option_map, map};
 ghost use Rattle.eir_term.specs.declared.val.Kind.TheVariants.{Glav};
 ghost use Rattle.eir_term.specs.Verdicts.{first_finding, first_refuting, refuted, domain_finding, refuted_finding, verdict};
 ghost use Rattle.eirene.specs.Findings.{finding_of};
 ghost use Rattle.eirene.specs.Workspaces.{data_example};
 
+mod first_example;
 mod foreign;
 mod refuting;
 
+use self::first_example::FirstExample;
 use self::foreign::first_foreign;
 use self::refuting::first_refuting;
 use crate::canonical::{Dep, canonical_mapping};
 use crate::data_example::DataExample;
 use crate::examples::Examples;
+use eir_search::Steps;
 use eir_term::{Map, Memory};
 use std::alloc::Global;
+use std::marker::Brand;
+use std::sync::ledger::{Blank, Ledger};
 
 /// What a fit finds; places of examples count from 0.
 #[derive(Drop)]
@@ -38,7 +43,7 @@ pub enum Verdict {
 pub fn verdict_on(alloc: Global, examples: &Examples) -> Result<Verdict, Memory>
     ensures { IfOk result (λ v. finding_of v ≡ verdict Glav (map data_example examples.now)) }
 {
-    if let Some(found) = domain_finding(alloc, examples)? {
+    if let Some(found) = domain_finding(examples) {
         return Ok(found);
     }
     if let Some(found) = refuted_finding(alloc, examples)? {
@@ -49,19 +54,19 @@ pub fn verdict_on(alloc: Global, examples: &Examples) -> Result<Verdict, Memory>
 }
 
 /// The first example with a foreign constant, and the first such constant.
-fn domain_finding(alloc: Global, examples: &Examples) -> Result<Option<Verdict>, Memory>
-    ensures { IfOk result (λ o. option_map finding_of o ≡ domain_finding (map data_example examples.now)) }
+fn domain_finding(examples: &Examples) -> Option<Verdict>
+    ensures { option_map finding_of result ≡ domain_finding (map data_example examples.now) }
 {
     for place in 0..examples.len() {
         let example = DataExample::at(examples, place);
-        if let Some(constant) = first_foreign(alloc, &example)? {
-            return Ok(Some(Verdict::Domain {
+        if let Some(constant) = first_foreign(&example) {
+            return Some(Verdict::Domain {
                 example: place,
                 constant,
-            }));
+            });
         }
     }
-    Ok(None)
+    None
 }
 
 /// The first pair of examples with a refuting homomorphism, and the first such one. An example is paired with itself
@@ -69,9 +74,25 @@ fn domain_finding(alloc: Global, examples: &Examples) -> Result<Option<Verdict>,
 fn refuted_finding(alloc: Global, examples: &Examples) -> Result<Option<Verdict>, Memory>
     ensures { IfOk result (λ o. option_map finding_of o ≡ refuted_finding (map data_example examples.now)) }
 {
+    first_refuted::<Brand>(alloc, examples, Blank::new(1))
+}
+
+/// The same, with a count of the tries.
+fn first_refuted<L: Ledger>(
+    alloc: Global,
+    examples: &Examples,
+    blank: Blank,
+) -> Result<Option<Verdict>, Memory>
+    requires name { blank.name ≡ L.name }
+    requires parts { blank.parts ≡ L.parts }
+    requires some { 0 < blank.parts }
+    ensures { IfOk result (λ o. option_map finding_of o ≡ refuted_finding (map data_example examples.now)) }
+{
+    let mut steps = Steps::<L>::open(blank);
     for place in 0..examples.len() {
-        let first = DataExample::at(examples, place);
-        if let Some(found) = refuted_from(alloc, examples, place, &first)? {
+        let example = DataExample::at(examples, place);
+        let first = FirstExample::of(alloc, example)?;
+        if let Some(found) = refuted_from(alloc, examples, place, &first, &mut steps)? {
             return Ok(Some(found));
         }
     }
@@ -79,11 +100,12 @@ fn refuted_finding(alloc: Global, examples: &Examples) -> Result<Option<Verdict>
 }
 
 /// The first refuting homomorphism from this example, which stands at this place.
-fn refuted_from(
+fn refuted_from<L: Ledger>(
     alloc: Global,
     examples: &Examples,
     place: usize,
-    first: &DataExample,
+    first: &FirstExample,
+    steps: &mut Steps<L>,
 ) -> Result<Option<Verdict>, Memory>
     ensures { IfOk result (λ o. option_map finding_of o ≡
         first_finding (λ j f. option_map (refuted place j) (first_refuting first.now f)) 0
@@ -91,7 +113,7 @@ fn refuted_from(
 {
     for other in 0..examples.len() {
         let second = DataExample::at(examples, other);
-        if let Some(map) = first_refuting(alloc, first, &second)? {
+        if let Some(map) = first_refuting(alloc, first, &second, steps)? {
             return Ok(Some(Verdict::Refuted {
                 first: place,
                 second: other,

@@ -1,7 +1,8 @@
 //! The texts of verdicts.
-ghost use Rattle.std.specs.Prelude.{◌≡◌, ◌++◌, ◌∷◌, OnOk, codes, flat_map, map};
+ghost use Rattle.std.specs.Prelude.{◌≡◌, ◌++◌, ◌∷◌, OnOk, codes, filter, flat_map, map};
 ghost use Rattle.eir_term.specs.declared.val.Val.TheVariants.{Const};
 ghost use Rattle.eir_term.specs.Instances.{consts};
+ghost use Rattle.eir_term.specs.Values.{is_const};
 ghost use Rattle.eir_term.specs.Verdicts.{foreign_at, refuted, fits};
 ghost use Rattle.eirene.specs.Findings.{dependency_of, finding_of};
 ghost use Rattle.eirene.specs.Names.{name_text};
@@ -13,10 +14,9 @@ use crate::canonical::Dep;
 use crate::examples::Examples;
 use crate::names::Names;
 use crate::schema::Schema;
-use crate::values::constants_of;
 use crate::verdict::Verdict;
 use crate::workspace::Workspace;
-use eir_term::{Fact, Map, Memory, Text, Val};
+use eir_term::{Map, Memory, Text, Val};
 use std::alloc::Global;
 
 /// Appends what the fit found.
@@ -30,9 +30,9 @@ pub fn print_verdict(
 {
     match verdict {
         Verdict::Domain { example, constant } => print_domain(workspace, *example, *constant, out),
-        Verdict::Refuted { first, second, map } => {
-            print_refuted(alloc, workspace, *first, *second, map, out)
-        }
+        Verdict::Refuted { first, second, map } => print_refuted(
+            workspace, *first, *second, map, out,
+        ),
         Verdict::Fits(mapping) => print_fits(alloc, workspace, mapping, out),
     }
 }
@@ -55,7 +55,6 @@ fn print_domain(
 
 /// Appends the two examples, and where the map sends the constants of the first one's source.
 fn print_refuted(
-    alloc: Global,
     workspace: &Workspace,
     first: usize,
     second: usize,
@@ -68,7 +67,7 @@ fn print_refuted(
     print_example(&workspace.examples, first, out)?;
     out.push_all(b" ")?;
     print_example(&workspace.examples, second, out)?;
-    print_moves_at(alloc, workspace, first, map, out)?;
+    print_moves_at(workspace, first, map, out)?;
     out.push_all(b"\n")
 }
 
@@ -105,7 +104,6 @@ fn print_mapping(
 
 /// Appends where the map sends the constants of the source of the example at a place.
 fn print_moves_at(
-    alloc: Global,
     workspace: &Workspace,
     place: usize,
     map: &Map,
@@ -115,36 +113,19 @@ fn print_moves_at(
         ++ flat_map (moved_text workspace.now.names map.now) (consts (source_at workspace.now.examples place))) }
 {
     match workspace.examples.source(place) {
-        Some(source) => print_moves(alloc, &workspace.names, source.as_slice(), map, out),
+        Some(source) => print_moves(&workspace.names, source.values(), map, out),
         None => Ok(()),
     }
 }
 
-/// Appends where the map sends the constants of these facts.
-fn print_moves(
-    alloc: Global,
-    names: &Names,
-    facts: &[Fact],
-    map: &Map,
-    out: &mut Text,
-) -> Result<(), Memory>
-    ensures { OnOk result (out.new ≡ out.old ++ flat_map (moved_text names.now map.now) (consts facts.now)) }
+/// Appends where the map sends those of the values that are constants.
+fn print_moves(names: &Names, values: &[Val], map: &Map, out: &mut Text) -> Result<(), Memory>
+    ensures { OnOk result (out.new ≡ out.old ++ flat_map (moved_text names.now map.now) (filter is_const values.now)) }
 {
-    let constants = constants_of(alloc, facts)?;
-    print_all_moved(names, constants.as_slice(), map, out)
-}
-
-/// Appends where the map sends each of these.
-fn print_all_moved(
-    names: &Names,
-    constants: &[Val],
-    map: &Map,
-    out: &mut Text,
-) -> Result<(), Memory>
-    ensures { OnOk result (out.new ≡ out.old ++ flat_map (moved_text names.now map.now) constants.now) }
-{
-    for constant in constants {
-        print_moved(names, *constant, map, out)?;
+    for value in values {
+        if value.is_const() {
+            print_moved(names, *value, map, out)?;
+        }
     }
     Ok(())
 }

@@ -1,6 +1,3 @@
-use Rattle.std.proofs.Common.{List, ℕ, subst}
-use Rattle.std.specs.Io.KnownBytes.{Appends}
-use Rattle.eirene.specs.Scripts.{output_of}
 use Rattle.eirene.proofs.PromiseLaws.{fits_are_right}
 use Rattle.eirene.proofs.top.run.Goals as goal
 

@@ -9,12 +9,12 @@ use Rattle.eirene.proofs.verdict.domain_finding.Goals as goal
 pub returns-in-Some : goal.returns-in-Some
 returns-in-Some c =
     sym (first_finding-found (λ i e. option_map (foreign_at i) (first_foreign e)) (map data_example c.args.examples.now) c.loop-place.place c.at-example.result (foreign_at c.loop-place.place (Const c.in-Some.constant)) c.at-example.ensures
-    (ap (λ o. option_map (foreign_at c.loop-place.place) o) (sym c.in_ok-constant.ensures ∙ ap (λ o. option_map Const o) c.in-Some.is))) ∙ c.loop-place.invariant
+    (ap (λ o. option_map (foreign_at c.loop-place.place) o) (sym c.first_foreign.ensures ∙ ap (λ o. option_map Const o) c.in-Some.is))) ∙ c.loop-place.invariant
 
 pub loop-place-preserved : goal.loop-place-preserved
 loop-place-preserved c =
     first_finding-passed (λ i e. option_map (foreign_at i) (first_foreign e)) (map data_example c.args.examples.now) c.loop-place.place c.at-example.result c.at-example.ensures
-    (ap (λ o. option_map (foreign_at c.loop-place.place) o) (sym c.in_ok-constant.ensures ∙ ap (λ o. option_map Const o) (none-from c.in_ok-constant.field-0 c.in_default.not-Some))) ∙ c.loop-place.invariant
+    (ap (λ o. option_map (foreign_at c.loop-place.place) o) (sym c.first_foreign.ensures ∙ ap (λ o. option_map Const o) (none-from c.first_foreign.result c.in_default.not-Some))) ∙ c.loop-place.invariant
 
 pub returns : goal.returns
 returns c =

@@ -4,6 +4,6 @@ use Rattle.eirene.specs.Workspaces.{data_example}
 use Rattle.eirene.proofs.verdict.refuted_from.Given as goal
 
 abbrev pub invariant-loop-other : goal.invariant-loop-other
-invariant-loop-other l =
+invariant-loop-other g l =
     first_finding (λ j f. option_map (refuted l.place j) (first_refuting l.first f)) l.other (drop l.other (map data_example l.examples))
     ≡ first_finding (λ j f. option_map (refuted l.place j) (first_refuting l.first f)) 0 (map data_example l.examples)

@@ -28,6 +28,7 @@ pub invariant_of-self : goal.invariant_of-self
 invariant_of-self c = (
   appended-distinct c.append.result c.self.inside.facts.keys c.append.new.facts.keys c.args.fact c.self.invariant.0 (absent-from c.contains.result c.self.inside.facts.keys c.args.fact c.contains.ensures c.if-contains.false) c.append.ensures.ok c.append.ensures.err,
   appended-within c.append.result c.self.inside.facts.keys c.append.new.facts.keys c.args.fact c.self.inside.limit (let e = c.len.ensures.len in let h = c.if-len-self.false in omega arith) c.append.ensures.ok c.append.ensures.err,
+  c.append.ensures.index c.self.invariant.2,
 )
 
 pub returns-clause-there : goal.returns-clause-there

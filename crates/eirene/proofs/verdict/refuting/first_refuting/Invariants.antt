@@ -1,6 +1,9 @@
-use Rattle.std.proofs.Common.{◌≡◌, drop, find}
-use Rattle.eir_term.specs.Verdicts.{is_stuck}
+use Rattle.std.proofs.Common.{length}
+use Rattle.eirene.proofs.RefutingLaws.{Stands}
 use Rattle.eirene.proofs.verdict.refuting.first_refuting.Given as goal
 
-abbrev pub invariant-loop-hom : goal.invariant-loop-hom
-invariant-loop-hom l = find (is_stuck l.first l.second) (drop l.hom-index l.hom-items) ≡ find (is_stuck l.first l.second) l.hom-items
+abbrev pub invariant-homs : goal.invariant-homs
+invariant-homs g l = Stands l.first l.second l.homs l.extensions l.start
+
+abbrev pub decreases-homs : goal.decreases-homs
+decreases-homs g l = length l.homs.to_come

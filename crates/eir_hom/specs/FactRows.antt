@@ -1,0 +1,30 @@
+-- The rows of the facts of an instance, by place (this project's own).
+--   numbers_at B p     == the numbers of the values of the fact at a place, column by column
+--   row_at B i p       == these numbers but that of the column
+--   IsPlace B i p      == the place is that of a fact, which has the column
+--   HaveRows B i n gs  == each place in these groups is such a place, with a row of n numbers
+use Rattle.std.specs.Prelude.{◌≡◌, ℕ, ◌<◌, List, [], map, length, slice_get, Option, Some, None, option_map, unwrap_or}
+use Rattle.eir_term.specs.declared.fact.Fact.{Fact}
+use Rattle.eir_term.specs.Lists.{◌∈◌}
+use Rattle.eir_hom.specs.Levels.{number, but_at}
+
+-- the numbers of the values of the fact at a place, column by column
+abbrev pub numbers_at : List Fact → ℕ → List ℕ
+numbers_at B p = unwrap_or (option_map (λ f. map (number B) f.args) (slice_get B p)) []
+
+-- these numbers but that of the column
+abbrev pub row_at : List Fact → Option ℕ → ℕ → List ℕ
+row_at B i p = but_at i (numbers_at B p)
+
+-- a column that is named is one of the row
+abbrev pub Within : Option ℕ → List ℕ → Type 0
+Within None ns = Unit {0}
+Within (Some i) ns = i < length ns
+
+-- the place is that of a fact, which has the column
+abbrev pub IsPlace : List Fact → Option ℕ → ℕ → Type 0
+IsPlace B i p = (p < length B) × Within i (numbers_at B p)
+
+-- each of these places is that of a fact whose row has this length
+abbrev pub HaveRows : List Fact → Option ℕ → ℕ → List (List ℕ) → Type 0
+HaveRows B i stride gs = (ps : List ℕ) → ps ∈ gs → (p : ℕ) → p ∈ ps → IsPlace B i p × (length (row_at B i p) ≡ stride)

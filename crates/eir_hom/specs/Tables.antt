@@ -1,0 +1,26 @@
+-- Rows of numbers in flat memory (this project's own).
+--   Table                       == rows of one length, key by key
+--   TablesView                  == what a contract sees of tables: the cells that their rows lie in, and the tables
+--   rows_in cells stride range  == the rows that a range of cells has
+--   table_at v t                == the table of a number
+use Rattle.std.specs.Prelude.{ℕ, ◌+◌, ◌*◌, List, [], map, take, drop, slice_index_or}
+use Rattle.std.specs.List.{range_with_len}
+use Rattle.eir_hom.specs.declared.tables.Range.{Range}
+
+-- rows of one length, key by key
+pub record Table : Type 0 where
+  pub stride : ℕ
+  pub rows : List (List (List ℕ))
+
+-- what a contract sees of tables
+pub record TablesView : Type 0 where
+  pub cells : List ℕ
+  pub tables : List Table
+
+-- the rows that a range of cells has
+abbrev pub rows_in : List ℕ → ℕ → Range → List (List ℕ)
+rows_in cells stride range = map (λ c. take stride (drop (range.first + c * stride) cells)) (range_with_len 0 range.count)
+
+-- the table of a number; past the last an empty one
+abbrev pub table_at : TablesView → ℕ → Table
+table_at v t = slice_index_or v.tables t (record { stride = 0; rows = [] })

@@ -1,0 +1,282 @@
+//! What the search goes through: rows of numbers, level by level.
+ghost use Rattle.std.specs.Prelude.{◌≡◌, ◌≢◌, ℕ, ◌+◌, ◌<◌, ◌≤◌, get_or, slice_get, ◌++◌, ◌∷◌, [], Some, None, true, length, take, map, IfOk, OnOk, OnErr};
+ghost use Rattle.eir_hom.specs.Tables.{table_at};
+ghost use Rattle.eir_hom.specs.Matching.{Bindings, bound_to, matched, match_space, with_number};
+ghost use Rattle.eir_hom.specs.declared.matching.CompiledLevel.{CompiledLevel};
+ghost use Rattle.eir_hom.specs.declared.tables.Range.{Range};
+ghost use Rattle.eir_hom.specs.MatcherParts.{IsRangeFor};
+ghost use Rattle.eir_hom.specs.Columns.{is_among, bound_slots, unmarked, AreBelow};
+
+use crate::columns::{Column, mark_new};
+use crate::rows::scan_rows;
+use crate::tables::{Range, Tables};
+use eir_search::Problem;
+use eir_term::Memory;
+use std::alloc::Global;
+use std::marker::Model;
+
+/// Where a level's parts stand: the slot that picks its rows, its table, and its columns, which are as many as a row
+/// has numbers.
+#[derive(Clone, Copy, Debug, PartialEq, Eq)]
+struct CompiledLevel {
+    key: usize,
+    table: usize,
+    first_column: usize,
+    stride: usize,
+}
+
+/// Rows of numbers that are matched level by level: a row of each level is chosen among those that the number of the
+/// level's key slot picks, and binds the level's slots to its numbers; a slot keeps the number that it was first bound to.
+///
+/// A slot's number stands in one cell, and so does the range of a level's rows. What a lifted level wrote stays, and
+/// nobody reads it until it is written anew; so no try takes memory, hashes or looks through anything but its row.
+#[derive(Drop)]
+pub(crate) struct Matcher {
+    tables: Tables,
+    levels: Vec<CompiledLevel>,
+    columns: Vec<Column>,
+    ranges: Vec<Range>,
+    images: Vec<usize>,
+    is_bound: Vec<bool>,
+    given: Vec<usize>,
+    placed: Vec<usize>,
+    depth: usize,
+}
+
+impl Model for Matcher {
+    ghost use Rattle.eir_hom.specs.Matching.{Match};
+
+    ghost Value = { Match };
+
+    ghost use Rattle.std.specs.Prelude.{length, take};
+    ghost use Rattle.eir_hom.specs.MatcherParts.{levels_in, start_in, IsMatcher};
+
+    ghost view = { λ p. record {
+      slots = length p.images.items;
+      tables = p.tables;
+      levels = levels_in p.tables p.columns.items p.levels.items;
+      start = start_in p.given.items p.images.items;
+      placed = take p.depth p.placed.items;
+    } };
+
+    ghost invariant = { λ p. IsMatcher p.tables p.columns.items p.levels.items p.given.items p.images.items
+        p.is_bound.items p.ranges.items p.placed.items p.depth };
+}
+
+impl Matcher {
+    /// A matcher of so many slots that has no level and binds nothing.
+    pub(crate) fn new(alloc: Global, tables: Tables, slots: usize) -> Result<Matcher, Memory>
+        ensures { IfOk result
+            (λ m. m ≡ record { slots = slots; tables = tables; levels = []; start = []; placed = [] }) }
+    {
+        Ok(Matcher {
+            tables,
+            levels: Vec::new(alloc),
+            columns: Vec::new(alloc),
+            ranges: Vec::new(alloc),
+            images: vec![in alloc; 0usize; slots]?,
+            is_bound: vec![in alloc; false; slots]?,
+            given: Vec::new(alloc),
+            placed: Vec::new(alloc),
+            depth: 0,
+        })
+    }
+
+    /// Binds a slot to a number at the start.
+    pub(crate) fn bind(&mut self, slot: usize, number: usize) -> Result<(), Memory>
+        requires levels { self.old.levels ≡ [] }
+        requires slot { slot < self.old.slots }
+        requires unbound { bound_to self.old.start slot ≡ None }
+        ensures ok { OnOk result
+            (self.new ≡ record self.old { start = self.old.start ++ (slot, number) ∷ [] }) }
+        ensures err { OnErr result (self.new ≡ self.old) }
+    {
+        self.given.push(slot)?;
+        self.images[slot] = number;
+        self.is_bound[slot] = true;
+        Ok(())
+    }
+
+    /// Appends a level: the table's rows for the number of the slot `key` bind these slots. The slot `key` is bound
+    /// before.
+    pub(crate) fn push_level(
+        &mut self,
+        key: usize,
+        slots: &[usize],
+        table: usize,
+    ) -> Result<(), Memory>
+        requires placed { self.old.placed ≡ [] }
+        requires key { is_among key (bound_slots (map (λ p. p.0) self.old.start) self.old.levels) ≡ true }
+        requires slots { AreBelow slots.now self.old.slots }
+        requires table { table < length self.old.tables.tables }
+        requires stride { (table_at self.old.tables table).stride ≡ length slots.now }
+        ensures ok { OnOk result (self.new ≡ record self.old {
+          levels = self.old.levels ++
+              (record { key = key; slots = slots.now; rows = (table_at self.old.tables table).rows }) ∷ [];
+        }) }
+        ensures err { OnErr result (self.new ≡ self.old) }
+    {
+        let first_column = self.columns.len();
+        let stride = slots.len();
+        let level = CompiledLevel {
+            key,
+            table,
+            first_column,
+            stride,
+        };
+        append_columns(&mut self.columns, slots)?;
+        append_level(&mut self.levels, &mut self.ranges, &mut self.placed, level)?;
+        mark_new(&mut self.columns[first_column..], &mut self.is_bound);
+        set_range(
+            &self.tables,
+            &self.levels,
+            &self.images,
+            &mut self.ranges,
+            0,
+        );
+        Ok(())
+    }
+
+    /// Gives a slot that is bound at the start another number.
+    pub(crate) fn set_start(&mut self, slot: usize, number: usize)
+        requires placed { self.old.placed ≡ [] }
+        requires bound { is_among slot (map (λ p. p.0) self.old.start) ≡ true }
+        ensures { self.new ≡ record self.old { start = with_number self.old.start slot number } }
+    {
+        self.images[slot] = number;
+        set_range(
+            &self.tables,
+            &self.levels,
+            &self.images,
+            &mut self.ranges,
+            0,
+        );
+    }
+
+    /// The number that a slot is bound to; another number where it is not bound.
+    pub(crate) fn image(&self, slot: usize) -> usize
+        ensures { (m : Bindings) (w : ℕ) → matched self.now.levels self.now.start self.now.placed ≡ Some m
+            → bound_to m slot ≡ Some w
+            → result ≡ w }
+    {
+        match self.images.get(slot) {
+            Some(&number) => number,
+            None => 0,
+        }
+    }
+}
+
+impl Problem for Matcher {
+    type Base = Matcher;
+
+    ghost space = { λ m. match_space m.levels m.start };
+
+    ghost placed = { λ m. m.placed };
+
+    ghost base = { λ m. record m { placed = [] } };
+
+    fn levels(&self) -> usize {
+        self.levels.len()
+    }
+
+    fn width(&self, level: usize) -> usize {
+        self.ranges[level].count
+    }
+
+    fn place(&mut self, level: usize, choice: usize) -> bool {
+        // The choice is below the width, so there is a number behind it.
+        let _width = self.width(level);
+        self.scan(level, choice, choice + 1) == choice
+    }
+
+    fn scan(&mut self, level: usize, from: usize, to: usize) -> usize {
+        let CompiledLevel {
+            first_column,
+            stride,
+            ..
+        } = self.levels[level];
+        let first = self.ranges[level].first;
+        let columns = &self.columns[first_column..first_column + stride];
+        let found = scan_rows(
+            columns,
+            self.tables.cells(),
+            first,
+            from,
+            to,
+            &mut self.images,
+        );
+        if found < to {
+            self.placed[level] = found;
+            self.depth = level + 1;
+            set_range(
+                &self.tables,
+                &self.levels,
+                &self.images,
+                &mut self.ranges,
+                level + 1,
+            );
+        }
+        found
+    }
+
+    fn lift(&mut self, level: usize) {
+        self.depth = level;
+    }
+}
+
+/// Appends a column for each of these slots, none of which is new so far.
+fn append_columns(columns: &mut Vec<Column>, slots: &[usize]) -> Result<(), Memory>
+    ensures ok { OnOk result (columns.new.items ≡ columns.old.items ++ map unmarked slots.now) }
+    ensures kept { take (length columns.old.items) columns.new.items ≡ columns.old.items }
+{
+    for &slot in slots {
+        columns.push(Column {
+            slot,
+            is_new: false,
+        })?;
+    }
+    Ok(())
+}
+
+/// Appends a level, with places for its range and for its choice.
+fn append_level(
+    levels: &mut Vec<CompiledLevel>,
+    ranges: &mut Vec<Range>,
+    placed: &mut Vec<usize>,
+    level: CompiledLevel,
+) -> Result<(), Memory>
+    ensures ok { OnOk result (levels.new.items ≡ levels.old.items ++ level ∷ []) }
+    ensures err { OnErr result (levels.new.items ≡ levels.old.items) }
+    ensures ranges_room { OnOk result (length ranges.old.items + 1 ≤ length ranges.new.items) }
+    ensures ranges_kept { take (length ranges.old.items) ranges.new.items ≡ ranges.old.items }
+    ensures placed_room { OnOk result (length placed.old.items + 1 ≤ length placed.new.items) }
+    ensures placed_kept { take (length placed.old.items) placed.new.items ≡ placed.old.items }
+{
+    ranges.push(Range { first: 0, count: 0 })?;
+    placed.push(0)?;
+    levels.push(level)?;
+    Ok(())
+}
+
+/// Sets the range of a level to where its rows stand for the number of its key slot; nothing past the last level.
+fn set_range(
+    tables: &Tables,
+    levels: &[CompiledLevel],
+    images: &[usize],
+    ranges: &mut [Range],
+    level: usize,
+)
+    requires room { length levels.now ≤ length ranges.old }
+    requires parts { (l : CompiledLevel) → slice_get levels.now level ≡ Some l
+        → (l.table < length tables.now.tables) × (l.key < length images.now) }
+    ensures length { length ranges.new ≡ length ranges.old }
+    ensures others { (k : ℕ) → k ≢ level → slice_get ranges.new k ≡ slice_get ranges.old k }
+    ensures range { (l : CompiledLevel) (r : Range) → slice_get levels.now level ≡ Some l
+        → slice_get ranges.new level ≡ Some r
+        → IsRangeFor tables.now l (get_or images.now l.key 0) r }
+{
+    if level < levels.len() {
+        let CompiledLevel { key, table, .. } = levels[level];
+        ranges[level] = tables.range(table, images[key]);
+    }
+}
