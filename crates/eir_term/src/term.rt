@@ -69,4 +69,15 @@ impl Atom {
             args: Terms { items },
         })
     }
+
+    /// An equal atom.
+    pub fn copy(&self, alloc: Global) -> Result<Atom, Memory>
+        ensures { IfOk result (λ a. a ≡ self.now) }
+    {
+        let items = SmallVec::from_slice(alloc, self.args.as_slice())?;
+        Ok(Atom {
+            rel: self.rel,
+            args: Terms { items },
+        })
+    }
 }

@@ -20,6 +20,9 @@ fn plain_data(rt: HostRuntime) -> Result<(), Fail> {
     }
     let atom = Atom::make(alloc, 5, &[Term::Var(1), Term::Fixed(2)])?;
     assert!(rt; atom.args.as_slice() == [Term::Var(1), Term::Fixed(2)].as_slice());
+    let again = atom.copy(alloc)?;
+    assert_eq!(rt; again.rel, 5);
+    assert!(rt; again.args.as_slice() == [Term::Var(1), Term::Fixed(2)].as_slice());
     let mut text = Text::make(alloc, b"Emp")?;
     text.push_all(b"(ann,hr)")?;
     assert!(rt; text.bytes() == b"Emp(ann,hr)".as_slice());

@@ -1,0 +1,8 @@
+use Rattle.eir_dep.proofs.MarkLaws.{AreMarks-cleared}
+use Rattle.eir_dep.proofs.check.check_many.Goals as goal
+
+pub check_marked-requires-clause-none_bound : goal.check_marked-requires-clause-none_bound
+check_marked-requires-clause-none_bound c = AreMarks-cleared 16384
+
+pub check_marked-requires-clause-none_concluded : goal.check_marked-requires-clause-none_concluded
+check_marked-requires-clause-none_concluded c = AreMarks-cleared 16384

@@ -1,0 +1,7 @@
+pub mod ColumnLaws
+pub mod NameLaws
+pub mod PlaceLaws
+pub mod SchemaLaws
+pub mod SideLaws
+pub mod StampLaws
+pub mod TableLaws
