@@ -28,7 +28,8 @@ pub(crate) struct Draft {
 
 /// The matcher for the homomorphisms from `a` to `b` that agree with the start, where the facts of `a` are placed in
 /// this order. The guard is asked once for each pair of profiles. It takes time linear in the two instances and, for
-/// each distinct table, in its relation's facts and the values of `b`.
+/// each distinct table, in its relation's facts and the values of `b`; profiles and tables that are there already are
+/// looked for one by one.
 pub(crate) fn compile(
     alloc: Global,
     guard: &Guard,
