@@ -23,7 +23,7 @@ use Rattle.eir_inst.specs.Fronts.{IsFronted}
 use Rattle.eir_inst.proofs.ValueLaws.{occurrences-push, position_or_len-place}
 
 -- more inserts are inserts after inserts
-insert_all-append : (ks vs ws : List Val) → insert_all val_eq ks (vs ++ ws) ≡ insert_all val_eq (insert_all val_eq ks vs) ws
+pub insert_all-append : (ks vs ws : List Val) → insert_all val_eq ks (vs ++ ws) ≡ insert_all val_eq (insert_all val_eq ks vs) ws
 insert_all-append ks [] ws = refl
 insert_all-append ks (v ∷ vs) ws = insert_all-append (insert_key val_eq ks v) vs ws
 

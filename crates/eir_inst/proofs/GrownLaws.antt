@@ -38,7 +38,7 @@ widen-step old items new p i n l e g q =
     g ∙ ap₂ (λ ps z. ps ++ z ∷ []) e q ∙ append_assoc old (blank (i - n)) ([] ∷ []) ∙ ap (λ ps. old ++ ps) (sym (blank-push (i - n)) ∙ ap blank c)
 
 -- the tests of two values and of their numbers agree, where both are among the values
-number-test : (ws : List Val) (u v : Val) → u ∈ ws → v ∈ ws → (place_of val_eq u ws == place_of val_eq v ws) ≡ val_eq v u
+pub number-test : (ws : List Val) (u v : Val) → u ∈ ws → v ∈ ws → (place_of val_eq u ws == place_of val_eq v ws) ≡ val_eq v u
 number-test ws u v i j = elim (cases_Bool (val_eq v u)) [
   | inl t ↦ (Decides-eqb (place_of val_eq u ws) (place_of val_eq v ws)).1 (ap (λ x. place_of val_eq x ws) (sym ((val_eq-decides v u).0 t))) ∙ sym t
   | inr t ↦ elim (cases_Bool (place_of val_eq u ws == place_of val_eq v ws)) [

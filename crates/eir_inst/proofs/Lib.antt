@@ -8,5 +8,8 @@ pub mod AddLaws
 pub mod IndexLaws
 pub mod ClosedLaws
 pub mod FrontLaws
+pub mod CopyLaws
 pub mod RemoveLaws
+pub mod KnownLaws
+pub mod KeptLaws
 pub mod InsertLaws

@@ -1,6 +1,7 @@
--- Places of the elements that pass, against the elements that pass. The points are `places-push`: one element more, and
--- `filter-at`: the k-th that passes stands at the k-th place.
-use Rattle.std.proofs.Common.{◌≡◌, ℕ, zero, suc, ◌+◌, inl, inr, Bool, true, false, cond, List, [], ◌∷◌, ◌++◌, filter, length, Some, None, slice_get, refl, sym, ◌∙◌, ap, arith}
+-- Places of the elements that pass, against the elements that pass. The points are `places-push`: one element more,
+-- `filter-at`: the k-th that passes stands at the k-th place, and `filter-retained`: what a walk that drops elements leaves.
+use Rattle.std.proofs.Common.{◌≡◌, ℕ, zero, suc, ◌+◌, inl, inr, Bool, true, false, cond, List, [], ◌∷◌, ◌++◌, filter, length, Some, None, slice_get, refl, sym, ◌∙◌, ap, ap₂, subst, arith}
+use Rattle.std.specs.List.Retain.{RetainsInTurn}
 use Rattle.std.proofs.lemmas.Bool.{cases_Bool}
 use Rattle.std.proofs.lemmas.Option.{same_Some, none-some}
 use Rattle.eir_term.specs.Lists.{places}
@@ -41,3 +42,11 @@ module _ {X : Type 0} (p : X → Bool) where
       by true zero e rest = let c = same_Some n q e in (zero, omega arith, refl)
       by true (suc k) e rest = rest k e
       by false k e rest = rest k e
+
+-- a walk that keeps the elements that pass leaves these, where no turn changes an element or the closure that tests
+pub filter-retained : {X F : Type 0} (turn : F → X → Bool → F → X → Type 0) (test : X → Bool) (f : F) → ((x : X) (b : Bool) (g : F) (y : X) → turn f x b g y → (b ≡ test x) × (g ≡ f) × (y ≡ x)) → (xs ys : List X) → RetainsInTurn turn f xs ys → ys ≡ filter test xs
+filter-retained turn test f says [] ys h = h
+filter-retained {X} turn test f says (x ∷ xs) ys h =
+    let s = says x h.0 h.1 h.2 h.3 in
+    let rest = filter-retained turn test f says xs h.4 (subst (λ g. RetainsInTurn turn g xs h.4) s.1 h.5) in
+    h.6 ∙ ap₂ (λ b (y : X). cond b (y ∷ h.4) h.4) s.0 s.2 ∙ ap (λ (zs : List X). cond (test x) (x ∷ zs) zs) rest

@@ -1,10 +1,10 @@
--- The index once a fact is taken out. The points are `values-left`, `profiles-left` and `IsIndex-remove`.
-use Rattle.std.proofs.Common.{◌≡◌, ◌↔◌, append-nil, ℕ, zero, suc, ◌+◌, ◌-◌, ◌<◌, ◌≤◌, ◌==◌, not, inl, inr, Bool, true, false, cond, List, [], ◌∷◌, ◌++◌, map, filter, remove, length, take, drop, Some, None, position, nat_lt, refl, sym, ◌∙◌, ap, ap₂, subst, arith, append_assoc}
+-- What is left once a fact is taken out. The points are `values-left`, `profiles-left` and `profile-left`.
+use Rattle.std.proofs.Common.{◌≡◌, ◌↔◌, ℕ, zero, suc, ◌+◌, ◌-◌, ◌<◌, ◌≤◌, ◌==◌, not, inl, inr, Bool, true, false, cond, List, [], ◌∷◌, ◌++◌, map, filter, remove, length, take, drop, Some, None, position, nat_lt, refl, sym, ◌∙◌, ap, ap₂, subst, arith, append_assoc}
 use Rattle.std.proofs.lemmas.Bool.{cases_Bool, false≢true}
 use Rattle.std.proofs.lemmas.Bool.Decides.{Decides-eqb, Decides-ltb}
 use Rattle.std.proofs.lemmas.Option.{same_Some, none-some}
 use Rattle.std.specs.List.{position_or_len, list_any}
-use Rattle.std.proofs.lemmas.List.{drop_all, take-append-drop, take_all, length-drop, length-map}
+use Rattle.std.proofs.lemmas.List.{take-append-drop, take_all, length-drop, length-map}
 use Rattle.indexmap.specs.IndexMap.{IndexMap}
 use Rattle.indexmap.specs.IndexSet.{remove_key}
 use Rattle.eir_term.specs.declared.val.Val.{Val}
@@ -17,20 +17,16 @@ use Rattle.eir_term.specs.Profiles.{Mark, profile}
 use Rattle.eir_term.proofs.ListLaws.{apart-false, ∈-list_any, ∈-list_any_from, ∈-append_left, ∈-append_right, ∈-distinct, ∈-filter, ∈-filter_from}
 use Rattle.eir_term.proofs.OrderLaws.{AllLater-filter, ∈-slice_get, ∈-slice_get_from, ∈-places, ∈-places_from}
 use Rattle.eir_term.proofs.ProfileLaws.{IsEarlier, profile-ascending, ascending-unique, has_at-decides, ∈-profile, ∈-profile_from}
-use Rattle.eir_inst.specs.declared.index.Index.{Index}
 use Rattle.eir_inst.specs.declared.key.Key.{Key}
 use Rattle.eir_inst.specs.declared.key.Key.TheVariants.{Column}
 use Rattle.eir_inst.specs.Keys.{has_key}
 use Rattle.eir_inst.specs.Postings.{listed, is_listed}
-use Rattle.eir_inst.specs.Closed.{closed}
 use Rattle.eir_inst.specs.Numbers.{numbers_of}
-use Rattle.eir_inst.specs.Indexes.{IsIndex}
 use Rattle.eir_inst.specs.Fronts.{IsFronted}
 use Rattle.eir_inst.proofs.ValueLaws.{insert_all-distinct}
-use Rattle.eir_inst.proofs.ClosedLaws.{closed-places}
 use Rattle.eir_inst.proofs.FrontLaws.{IsFronted-then}
 
-occurrences-append : (K L : List Fact) → occurrences (K ++ L) ≡ occurrences K ++ occurrences L
+pub occurrences-append : (K L : List Fact) → occurrences (K ++ L) ≡ occurrences K ++ occurrences L
 occurrences-append [] L = refl
 occurrences-append (f ∷ K) L = ap (λ vs. f.args ++ vs) (occurrences-append K L) ∙ sym (append_assoc f.args (occurrences K) (occurrences L))
 
@@ -49,7 +45,7 @@ values-left K p old mid new ps qs rs a b f g =
     (IsFronted-then old mid new ps qs rs 0 a b (occurrences (take p K)) (occurrences (drop (suc p) K)) f g).front
     ∙ insert_all-distinct val_eq val_eq-decides [] (occurrences (take p K) ++ occurrences (drop (suc p) K)) ∙ ap (distinct val_eq) (sym (occurrences-append (take p K) (drop (suc p) K)))
 
-take-map : {X Y : Type 0} (g : X → Y) (n : ℕ) (xs : List X) → take n (map g xs) ≡ map g (take n xs)
+pub take-map : {X Y : Type 0} (g : X → Y) (n : ℕ) (xs : List X) → take n (map g xs) ≡ map g (take n xs)
 take-map g zero xs = refl
 take-map g (suc n) [] = refl
 take-map {X} {Y} g (suc n) (x ∷ xs) = ap (λ (ys : List Y). g x ∷ ys) (take-map g n xs)
@@ -115,24 +111,6 @@ pub row-lengths : (ws : List Val) (K : List Fact) → map length (map (λ (f : F
 row-lengths ws [] = refl
 row-lengths ws (f ∷ K) = ap₂ (λ (n : ℕ) ns. n ∷ ns) (length-map f.args (λ v. place_of val_eq v ws)) (row-lengths ws K)
 
--- the index of the facts that are left
-pub IsIndex-remove : (K : List Fact) (p : ℕ) (x y : Index) → IsIndex K x → p < length K → ((k : Key) → listed y.postings.lists k ≡ closed p (listed x.postings.lists k)) → y.numbering.values.keys ≡ values (remove K p) →
-    y.numbering.rows.items ≡ map (λ (f : Fact). numbers_of (values (remove K p)) f.args) (remove K p) →
-    ((g : Val → List Mark) → x.numbering.profiles.items ≡ map g (values K) → y.numbering.profiles.items ≡ map (λ v. filter (is_listed y.postings.lists v) (g v)) (values (remove K p))) → IsIndex (remove K p) y
-IsIndex-remove K p x y i b l v r g =
-    let e : p ≡ 0 + p = omega arith in
-    let lists : (k : Key) → listed y.postings.lists k ≡ places (has_key k) 0 (remove K p) = λ k. l k ∙ ap₂ closed e (i.postings k) ∙ closed-places (has_key k) 0 p K b in
-    record {
-      postings = lists;
-      values = v;
-      rows = r;
-      profiles = g (profile K) i.profiles ∙ same (values (remove K p)) lists;
-    }
-  where
-    same : (vs : List Val) → ((k : Key) → listed y.postings.lists k ≡ places (has_key k) 0 (remove K p)) → map (λ v. filter (is_listed y.postings.lists v) (profile K v)) vs ≡ map (profile (remove K p)) vs
-    same [] q = refl
-    same (u ∷ vs) q = ap₂ (λ (m : List Mark) ms. m ∷ ms) (profile-left K p y.postings.lists u q) (same vs q)
-
 without-absent : (f : Fact) (K : List Fact) → (f ∈ K → ⊥) → without fact_eq f K ≡ K
 without-absent f [] a = refl
 without-absent f (x ∷ K) a = rw (apart-false fact_eq fact_eq-decides f x (λ e. a (inl e))) (ap (λ fs. x ∷ fs) (without-absent f K (λ h. a (inr h))))
@@ -159,11 +137,6 @@ found-out f K n d e = by (nat_lt (position_or_len (fact_eq f) K) (length K)) ref
         let r = first-out f K d l in
         (omega arith, ap (remove K) (sym q) ∙ r.0, r.1)
     by false t k = absurd (none-some n k)
-
--- a list of which all was written over
-pub written-over : {X : Type 0} (new items : List X) (n : ℕ) → length items ≡ n → length new ≡ length items → take n (new ++ drop (length new) items) ≡ new
-written-over {X} new items n l e =
-    ap (λ (xs : List X). take n (new ++ xs)) (drop_all (length new) items (omega arith)) ∙ ap (take n) (append-nil new) ∙ take_all n new (omega arith)
 
 -- a list without an element is no longer
 pub length-without : (f : Fact) (K : List Fact) → length (without fact_eq f K) ≤ length K

@@ -1,5 +1,5 @@
 //! The index of an instance: its facts by key, and its values by number with their profiles.
-ghost use Rattle.std.specs.Prelude.{◌≡◌, ◌++◌, ◌∷◌, [], List, OnOk, OnErr, length, remove, ◌<◌};
+ghost use Rattle.std.specs.Prelude.{◌≡◌, ◌++◌, ◌∷◌, [], List, IfOk, OnOk, OnErr, length, remove, ◌<◌};
 ghost use Rattle.eir_term.specs.declared.fact.Fact.{Fact};
 ghost use Rattle.eir_inst.specs.Indexes.{IsIndex};
 
@@ -24,6 +24,18 @@ impl Index {
             postings: Postings::new(alloc),
             numbering: Numbering::new(alloc),
         }
+    }
+
+    /// The index of the same facts.
+    pub(crate) fn copy(&self) -> Result<Index, Memory>
+        ensures { IfOk result (λ x. (K : List Fact) → IsIndex K self.now → IsIndex K x) }
+    {
+        let postings = self.postings.copy()?;
+        let numbering = self.numbering.copy()?;
+        Ok(Index {
+            postings,
+            numbering,
+        })
     }
 
     /// Makes the index of some facts that of these and one more, which stands at `place`, behind them.

@@ -220,22 +220,23 @@ impl Instance {
         ensures { IfOk result (λ p. p ≡ profiles.profile self.now.facts val) }
     {
         match self.number_of(val) {
-            Some(number) => profile_at(self.alloc, self.profiles(), number),
+            Some(number) => profile_at(self.profiles(), number),
             None => Ok(Profile::new(self.alloc)),
         }
     }
 
-    /// An equal instance.
+    /// An equal instance. It costs one hash for each fact, each value and each key.
     pub fn copy(&self) -> Result<Instance, Memory>
         ensures { IfOk result (λ i. i ≡ self.now) }
     {
-        let alloc = self.alloc;
-        let facts = self.as_slice();
-        let mut copy = Instance::new(alloc, self.limit);
-        for fact in facts {
-            copy_into(alloc, &mut copy, fact)?;
-        }
-        Ok(copy)
+        let facts = copy_facts(self.alloc, &self.facts)?;
+        let index = self.index.copy()?;
+        Ok(Instance {
+            alloc: self.alloc,
+            facts,
+            limit: self.limit,
+            index,
+        })
     }
 
     /// The instance of the facts without nulls, in order, with the same limit.
@@ -254,12 +255,25 @@ impl Instance {
     }
 }
 
+/// The set of the same facts, in the same order.
+fn copy_facts(alloc: Global, facts: &IndexSet<Fact>) -> Result<IndexSet<Fact>, Memory>
+    requires { IsDistinct facts.now.keys }
+    ensures { IfOk result (λ copy. copy.keys ≡ facts.now.keys) }
+{
+    let mut copy = IndexSet::with_capacity(alloc, facts.len())?;
+    for fact in facts.as_slice() {
+        copy.insert(fact.copy(alloc)?)?;
+    }
+    Ok(copy)
+}
+
 /// A copy of the profile at a number.
-fn profile_at(alloc: Global, profiles: &[Profile], number: usize) -> Result<Profile, Memory>
+fn profile_at(profiles: &[Profile], number: usize) -> Result<Profile, Memory>
     requires { number < length profiles.now }
     ensures { IfOk result (λ p. p ≡ slice_index_or profiles.now number []) }
 {
-    profiles[number].copy(alloc)
+    let profile = profiles[number].clone()?;
+    Ok(profile)
 }
 
 /// Puts a copy of the fact behind those of an instance that lacks it and is not full.

@@ -16,10 +16,12 @@
 //! # How it is kept
 //!
 //! `postings` lists the places of the facts under each `key`; `numbering` has the values, a `row` of numbers for each
-//! fact and the `profiles`; `front` brings values into order once a fact is gone. `index` joins them: the invariant of
+//! fact and the `profiles`; once a fact is gone, `earlier` tells by numbers whether a value occurs first elsewhere, and
+//! `front` then brings the values into order. `index` joins them: the invariant of
 //! an `Instance` is that they are the index of its facts (`IsIndex` of `specs/Indexes`).
 #![tactic(auto)]
 
+mod earlier;
 mod front;
 mod index;
 mod instance;

@@ -3,13 +3,14 @@ ghost use Rattle.std.specs.Prelude.{◌≡◌, ◌++◌, ◌∷◌, ◌-◌, ◌
 ghost use Rattle.eir_inst.specs.Closed.{lowered, closed};
 
 use eir_term::Memory;
-use std::alloc::Global;
+use smallvec::SmallVec;
+use std::alloc::{AllocError, Global};
 use std::marker::Model;
 
-/// The places, in the list of facts, of those that are listed under one key.
+/// The places, in the list of facts, of those that are listed under one key. Up to three stand in the list itself.
 #[derive(Drop)]
 pub struct Places {
-    list: Vec<usize>,
+    list: SmallVec<usize, 3>,
 }
 
 impl Model for Places {
@@ -26,7 +27,7 @@ impl Places {
         ensures { result ≡ [] }
     {
         Places {
-            list: Vec::new(alloc),
+            list: SmallVec::new(alloc),
         }
     }
 
@@ -51,7 +52,7 @@ impl Places {
         ensures { self.new ≡ closed place self.old }
     {
         drop_place(&mut self.list, place);
-        lower_above(&mut self.list, place);
+        lower_above(self.list.as_mut_slice(), place);
     }
 
     /// The places, lent.
@@ -62,8 +63,19 @@ impl Places {
     }
 }
 
+impl Clone for Places {
+    ghost use Rattle.std.specs.Prelude.{◌≡◌};
+
+    ghost is_clone = { λ p q. q ≡ p };
+
+    fn clone(&self) -> Result<Places, AllocError> {
+        let list = SmallVec::from_slice(*self.list.allocator(), self.list.as_slice())?;
+        Ok(Places { list })
+    }
+}
+
 /// Takes a place out.
-fn drop_place(list: &mut Vec<usize>, place: usize)
+fn drop_place(list: &mut SmallVec<usize, 3>, place: usize)
     ensures { list.new.items ≡ filter (λ q. not (q == place)) list.old.items }
 {
     list.retain(|other| *other != place);

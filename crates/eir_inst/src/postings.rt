@@ -1,5 +1,5 @@
 //! The places of the facts under each key.
-ghost use Rattle.std.specs.Prelude.{◌≡◌, ◌++◌, ◌∷◌, [], ℕ, ◌-◌, ◌+◌, ◌<◌, ◌^◌, List, OnOk, OnErr, cond, length, take};
+ghost use Rattle.std.specs.Prelude.{◌≡◌, ◌++◌, ◌∷◌, [], ℕ, ◌-◌, ◌+◌, ◌<◌, ◌^◌, List, IfOk, OnOk, OnErr, cond, length, take};
 ghost use Rattle.eir_inst.specs.declared.key.Key.{Key};
 ghost use Rattle.eir_inst.specs.Keys.{key_eq};
 ghost use Rattle.eir_inst.specs.Closed.{closed};
@@ -27,6 +27,17 @@ impl Postings {
             alloc,
             lists: IndexMap::new(alloc),
         }
+    }
+
+    /// Equal lists of places, under the same keys.
+    pub(crate) fn copy(&self) -> Result<Postings, Memory>
+        ensures { IfOk result (λ p. (k : Key) → listed p.lists k ≡ listed self.now.lists k) }
+    {
+        let lists = self.lists.clone()?;
+        Ok(Postings {
+            alloc: self.alloc,
+            lists,
+        })
     }
 
     /// The places under a key.

@@ -7,7 +7,7 @@ ghost use Rattle.eir_inst.specs.Numbers.{numbers_of};
 use eir_term::{Memory, Val};
 use indexmap::IndexSet;
 use smallvec::SmallVec;
-use std::alloc::Global;
+use std::alloc::{AllocError, Global};
 use std::marker::Model;
 
 /// The numbers of a fact's values, column by column. Up to four stand in the row itself.
@@ -56,6 +56,17 @@ impl Row {
         ensures { result.now ≡ self.now }
     {
         self.numbers.as_slice()
+    }
+}
+
+impl Clone for Row {
+    ghost use Rattle.std.specs.Prelude.{◌≡◌};
+
+    ghost is_clone = { λ r s. s ≡ r };
+
+    fn clone(&self) -> Result<Row, AllocError> {
+        let numbers = SmallVec::from_slice(*self.numbers.allocator(), self.numbers.as_slice())?;
+        Ok(Row { numbers })
     }
 }
 

@@ -11,14 +11,14 @@ as_many rows facts e = sym (length-map rows length) ∙ ap length e ∙ length-m
 
 pub renumber-requires : goal.renumber-requires
 renumber-requires c =
-    let n = as_many c.args.rows.now c.args.facts.now c.requires in
+    let n = as_many c.args.rows.now c.args.facts.now c.requires.lengths in
     let t = c.loop-at-test.true in
     let l : c.loop-at.at ≤ length c.args.facts.now = omega arith in
     let k : c.loop-at.at < length c.args.rows.now = omega arith in
     ap length (still-there (λ (f : Fact). numbers_of c.args.values.now.keys f.args) c.args.facts.now c.args.rows.now c.loop-at.at c.index-rows-at.result c.loop-at.rows l k c.loop-at.invariant)
-    ∙ sym (get_or-mapped length c.args.rows.now c.loop-at.at c.index-rows-at.result 0 k) ∙ ap (λ ns. get_or ns c.loop-at.at 0) c.requires ∙ get_or-mapped (λ (f : Fact). length f.args) c.args.facts.now c.loop-at.at c.index-facts-at.result 0 c.loop-at-test.true ∙ ap length (sym c.as_slice.ensures.values)
+    ∙ sym (get_or-mapped length c.args.rows.now c.loop-at.at c.index-rows-at.result 0 k) ∙ ap (λ ns. get_or ns c.loop-at.at 0) c.requires.lengths ∙ get_or-mapped (λ (f : Fact). length f.args) c.args.facts.now c.loop-at.at c.index-facts-at.result 0 c.loop-at-test.true ∙ ap length (sym c.as_slice.ensures.values)
 
 pub loop-at-preserved : goal.loop-at-preserved
 loop-at-preserved c =
-    rewritten-turn (λ (f : Fact). numbers_of c.args.values.now.keys f.args) c.args.facts.now c.args.rows.now c.loop-at.at c.index-facts-at.result c.loop-at.rows c.renumber.new.self (as_many c.args.rows.now c.args.facts.now c.requires) c.loop-at-test.true c.loop-at.invariant
+    rewritten-turn (λ (f : Fact). numbers_of c.args.values.now.keys f.args) c.args.facts.now c.args.rows.now c.loop-at.at c.index-facts-at.result c.loop-at.rows c.renumber.new.self (as_many c.args.rows.now c.args.facts.now c.requires.lengths) c.loop-at-test.true c.loop-at.invariant
     (c.renumber.ensures ∙ ap (numbers_of c.args.values.now.keys) c.as_slice.ensures.values)

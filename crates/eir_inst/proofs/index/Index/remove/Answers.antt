@@ -1,4 +1,4 @@
-use Rattle.eir_inst.proofs.RemoveLaws.{IsIndex-remove}
+use Rattle.eir_inst.proofs.KeptLaws.{IsIndex-remove}
 use Rattle.eir_inst.proofs.index.Index.remove.Goals as goal
 
 pub returns : goal.returns
