@@ -17,6 +17,8 @@ mod check;
 mod dep;
 mod mapping;
 mod marks;
+#[cfg(test)]
+mod tests;
 
 pub use dep::{Dep, DepRefused};
 pub use mapping::Mapping;
