@@ -1,7 +1,7 @@
 -- How a matcher is made: its bindings at the start and its levels.
-use Rattle.std.proofs.Common.{◌≡◌, ℕ, suc, ◌<◌, ◌≤◌, ◌==◌, Bool, true, false, List, [], ◌∷◌, ◌++◌, length, set, get_or, Some, None, is_some, slice_get, inl, inr, refl, ap, sym, ◌∙◌, subst, arith}
-use Rattle.std.proofs.lemmas.Bool.{cases_eq}
-use Rattle.std.proofs.lemmas.List.{length-set, length-map, length_push, get_or_append_left, get_or_push, get_or-set_same, get_or-set_other, map_push, nil_from_length}
+use Rattle.std.proofs.Common.{◌≡◌, ℕ, suc, ◌<◌, ◌≤◌, ◌==◌, Bool, true, false, List, [], ◌∷◌, ◌++◌, length, set, get_or, replicate, Some, None, is_some, slice_get, inl, inr, refl, ap, sym, ◌∙◌, subst, arith}
+use Rattle.std.proofs.lemmas.Bool.{cases_eq, cases_lt}
+use Rattle.std.proofs.lemmas.List.{get_or-replicate, get_or_past, length-replicate, length-set, length-map, length_push, get_or_append_left, get_or_push, get_or-set_same, get_or-set_other, map_push, nil_from_length}
 use Rattle.eir_hom.specs.declared.columns.Column.{Column}
 use Rattle.eir_hom.specs.declared.tables.Range.{Range}
 use Rattle.eir_hom.specs.declared.matching.CompiledLevel.{CompiledLevel}
@@ -35,6 +35,14 @@ fresh ts cs ls given images flags ranges placed depth none flags_room ranges_roo
       let same : start_in given images ≡ m = (let h = rw z at e in cc) in
       subst (λ o. IsRange ts cs l r o) same (range l r (ap (slice_get ls) (sym z) ∙ a) (ap (slice_get ranges) (sym z) ∙ b)));
 }
+
+-- flags of which none is set
+pub never-flagged : (n s : ℕ) → get_or (replicate n false) s false ≡ false
+never-flagged n s =
+    elim (cases_lt s n) [
+      | inl h ↦ get_or-replicate n s false false h
+      | inr h ↦ get_or_past (replicate n false) s false (omega (arith, length-replicate n false))
+    ]
 
 -- slots that are below
 pub below-push : (ss : List ℕ) (s n : ℕ) → AreBelow ss n → s < n → AreBelow (ss ++ s ∷ []) n

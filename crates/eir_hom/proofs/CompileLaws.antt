@@ -17,7 +17,7 @@ use Rattle.eir_term.proofs.PlanLaws.{plan-below}
 use Rattle.eir_hom.specs.declared.stock.Shape.{Shape}
 use Rattle.eir_hom.specs.declared.compile.Draft.{Draft}
 use Rattle.eir_hom.specs.Matching.{Level, Match}
-use Rattle.eir_hom.specs.Tables.{Table, TablesView}
+use Rattle.eir_hom.specs.Tables.{Table}
 use Rattle.eir_hom.specs.Columns.{is_among, seen_after}
 use Rattle.eir_hom.specs.FactRows.{numbers_at, row_at, Within}
 use Rattle.eir_hom.specs.Levels.{number, first_known, but_at, slot_of, key_column, level_at, level_of, levels_from, levels_of, bindings_of}
@@ -321,32 +321,32 @@ module _ (A B : List Fact) (ts : List Table) where
       (λ n h. let y : n ≡ 0 + n = omega arith in among-more n (length images) slots (ap (λ k. is_among k slots) y ∙ start-keys images 0 n h)) a
 
 -- the matcher that is made from images, tables and drafts
-module _ (A B : List Fact) (start : List (Val × Val)) (order : List ℕ) (images first second : List (Option ℕ)) (ts : TablesView) (slots : ℕ) (now mid : Match) (ds given : List Draft)
-    (o : order ≡ plan A B start) (e : images ≡ map (given_image B start) (values A)) (first_is : first ≡ images) (a : AreDrafts A B ts.tables ds (shapes_by A (map is_some first) order))
+module _ (A B : List Fact) (start : List (Val × Val)) (order : List ℕ) (images first second : List (Option ℕ)) (ts : List Table) (slots : ℕ) (now mid : Match) (ds given : List Draft)
+    (o : order ≡ plan A B start) (e : images ≡ map (given_image B start) (values A)) (first_is : first ≡ images) (a : AreDrafts A B ts ds (shapes_by A (map is_some first) order))
     (now_is : now ≡ record { slots = slots; tables = ts; levels = []; start = []; placed = [] }) (second_is : second ≡ images)
     (mid_is : mid ≡ record now { start = (length second, 0) ∷ bindings_from 0 second }) (given_is : given ≡ ds) where
-  its_drafts : AreDrafts A B ts.tables ds (shapes_by A (map is_some images) order)
-  its_drafts = subst (λ is. AreDrafts A B ts.tables ds (shapes_by A (map is_some is) order)) first_is a
+  its_drafts : AreDrafts A B ts ds (shapes_by A (map is_some images) order)
+  its_drafts = subst (λ is. AreDrafts A B ts ds (shapes_by A (map is_some is) order)) first_is a
 
-  its_tables : mid.tables.tables ≡ ts.tables
-  its_tables = ap (λ (m : Match). m.tables.tables) mid_is ∙ ap (λ (m : Match). m.tables.tables) now_is
+  its_tables : mid.tables ≡ ts
+  its_tables = ap (λ (m : Match). m.tables) mid_is ∙ ap (λ (m : Match). m.tables) now_is
 
   its_start : mid.start ≡ (length images, 0) ∷ bindings_from 0 images
   its_start = ap (λ (m : Match). m.start) mid_is ∙ ap (λ is. (length is, 0) ∷ bindings_from 0 is) second_is
 
   -- its drafts can be pushed
-  pub ready : AreReadyDrafts A mid.tables.tables (map (λ p. p.0) mid.start) given
+  pub ready : AreReadyDrafts A mid.tables (map (λ p. p.0) mid.start) given
   ready =
       let l : length images ≡ length (values A) = ap length e ∙ length-map (values A) (given_image B start) in
-      rw (its_tables, its_start, given_is) (ready-drafts A B ts.tables start order images ds o l its_drafts)
+      rw (its_tables, its_start, given_is) (ready-drafts A B ts start order images ds o l its_drafts)
 
-  module _ (end : Match) (end_is : end ≡ record mid { levels = map (draft_level A mid.tables.tables) given }) where
+  module _ (end : Match) (end_is : end ≡ record mid { levels = map (draft_level A mid.tables) given }) where
     -- and then it has the levels and the bindings
     pub end-levels : end.levels ≡ levels_of A B start
     end-levels =
         ap (λ (m : Match). m.levels) end_is
         ∙ ap₂ (λ t xs. map (draft_level A t) xs) its_tables given_is
-        ∙ levels-are A B start ts.tables order images ds o e its_drafts
+        ∙ levels-are A B start ts order images ds o e its_drafts
 
     pub end-start : end.start ≡ bindings_of A B start
     end-start = ap (λ (m : Match). m.start) end_is ∙ its_start ∙ bindings-are A B start images e

@@ -26,22 +26,6 @@ pub length-shapes : (A : List Fact) (known : List Bool) (ps : List ℕ) → leng
 length-shapes A known [] = refl
 length-shapes A known (p ∷ ps) = ap suc (length-shapes A (marked known (numbers_at A p)) ps)
 
--- more tables behind change no draft
-pub drafts-kept : (A B : List Fact) (old new : List Table) (ds : List Draft) (ss : List Shape) → take (length old) new ≡ old → AreDrafts A B old ds ss → AreDrafts A B new ds ss
-drafts-kept A B old new [] [] k a = tt
-drafts-kept A B old new [] (s ∷ ss) k a = a
-drafts-kept A B old new (d ∷ ds) [] k a = a
-drafts-kept A B old new (d ∷ ds) (s ∷ ss) k a =
-    let l : length old ≤ length new = omega (arith, length-take (length old) new, ap length k) in
-    let e : get_or new d.table no_table ≡ get_or old d.table no_table = sym (get_or-take (length old) new d.table no_table a.1) ∙ ap (λ xs. get_or xs d.table no_table) k in
-    (a.0, omega (arith, a.1), e ∙ a.2, drafts-kept A B old new ds ss k a.3)
-
-pub drafts-push : (A B : List Fact) (ts : List Table) (ds : List Draft) (ss : List Shape) (d : Draft) (s : Shape) → AreDrafts A B ts ds ss → d.shape ≡ s → d.table < length ts → get_or ts d.table no_table ≡ shape_table A B s → AreDrafts A B ts (ds ++ d ∷ []) (ss ++ s ∷ [])
-drafts-push A B ts [] [] d s a e h t = (e, h, t, tt)
-drafts-push A B ts [] (r ∷ ss) d s a e h t = absurd a
-drafts-push A B ts (c ∷ ds) [] d s a e h t = absurd a
-drafts-push A B ts (c ∷ ds) (r ∷ ss) d s a e h t = (a.0, a.1, a.2, drafts-push A B ts ds ss d s a.3 e h t)
-
 -- a turn of the loop over the plan
 module _ (A : List Fact) (known : List Bool) (S : List Shape) (ps : List ℕ) (i : ℕ) (h : i < length ps) (rest : drop i S ≡ shapes_by A known (drop i ps)) (long : length S ≡ length ps) where
   abbrev it : Shape

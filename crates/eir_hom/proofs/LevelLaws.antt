@@ -134,21 +134,21 @@ flag-below flags k h =
 pub record Pushing (ts : TablesView) (cs marked : List Column) (ls : List CompiledLevel) (given images : List ℕ) (depth key table first : ℕ) (ss : List ℕ) : Type 0 where
   pub empty : depth ≡ 0
   pub compiled : AreCompiled ts (cs ++ marked) (length images) given (ls ++ (record { key = key; table = table; first_column = first; stride = length ss }) ∷ [])
-  pub levels : levels_in ts (cs ++ marked) (ls ++ (record { key = key; table = table; first_column = first; stride = length ss }) ∷ []) ≡ levels_in ts cs ls ++ (record { key = key; slots = ss; rows = (table_at ts table).rows }) ∷ []
+  pub levels : levels_in ts (cs ++ marked) (ls ++ (record { key = key; table = table; first_column = first; stride = length ss }) ∷ []) ≡ levels_in ts cs ls ++ (record { key = key; slots = ss; rows = (table_at ts.tables table).rows }) ∷ []
 
 pub pushing : (ts : TablesView) (cs marked : List Column) (ls : List CompiledLevel) (given images : List ℕ)
     (flags : List Bool) (ranges : List Range) (placed : List ℕ) (depth : ℕ) (now : Match) (key table first : ℕ)
     (ss : List ℕ) → seen_of ts cs ls given images placed depth ≡ now →
     IsMatcher ts cs ls given images flags ranges placed depth →
     now.placed ≡ [] → is_among key (bound_slots (map (λ p. p.0) now.start) now.levels) ≡ true →
-    AreBelow ss now.slots → table < length now.tables.tables → (table_at now.tables table).stride ≡ length ss →
+    AreBelow ss now.slots → table < length now.tables → (table_at now.tables table).stride ≡ length ss →
     first ≡ length cs → slots_of marked ≡ ss →
     ((seen : List ℕ) → ((s : ℕ) → get_or flags s false ≡ is_among s seen) → AreColumns seen marked) →
     Pushing ts cs marked ls given images depth key table first ss
 pushing ts cs marked ls given images flags ranges placed depth now key table first ss v p none key_in below table_in stride_is first_is slots marked_are =
     let within : depth ≤ length placed = omega (arith, p.deep, p.placed_room) in
     let l : CompiledLevel = record { key = key; table = table; first_column = first; stride = length ss } in
-    let tables : ts ≡ now.tables = ap (λ s. s.tables) v in
+    let tables : ts.tables ≡ now.tables = ap (λ s. s.tables) v in
     let count : length marked ≡ length ss = sym (length-map marked (λ c. c.slot)) ∙ ap length slots in
     let part : columns_at (cs ++ marked) l ≡ marked = ap (take (length ss)) (drop_at cs marked first (sym first_is)) ∙ take_all (length ss) marked (omega arith) in
     let seen_is : bound_slots (map (λ p. p.0) now.start) now.levels ≡ bound_slots given (levels_in ts cs ls) = ap (λ s. bound_slots (map (λ p. p.0) s.start) s.levels) (sym v) ∙ ap (λ g. bound_slots g (levels_in ts cs ls)) (firsts-start given images) in
@@ -187,7 +187,7 @@ pushed ts cs marked ls given images flags after_flags ranges after_ranges placed
     let more : Match → Match = λ m. record m { levels = m.levels ++ (record { key = key; slots = ss; rows = (table_at m.tables table).rows }) ∷ [] } in
     let none : take depth after_placed ≡ take depth placed = rw q.empty refl in
     let flagged : (s : ℕ) → get_or after_flags s false ≡ is_among s (bound_slots given (levels_in ts (cs ++ marked) (ls ++ l ∷ []))) =
-    λ s. bound (bound_slots given (levels_in ts cs ls)) p.bound s ∙ ap (is_among s) (sym (ap (bound_slots given) q.levels ∙ bound_slots-push given (levels_in ts cs ls) (record { key = key; slots = ss; rows = (table_at ts table).rows }))) in
+    λ s. bound (bound_slots given (levels_in ts cs ls)) p.bound s ∙ ap (is_among s) (sym (ap (bound_slots given) q.levels ∙ bound_slots-push given (levels_in ts cs ls) (record { key = key; slots = ss; rows = (table_at ts.tables table).rows }))) in
     let start : (k : CompiledLevel) (r : Range) → slice_get (ls ++ l ∷ []) 0 ≡ Some k → slice_get after_ranges 0 ≡ Some r → IsRange ts (cs ++ marked) k r (start_in given images) =
     λ k r a b. range-is ts (cs ++ marked) (length images) (start_in given images) k images r (next-level ts (cs ++ marked) (length images) given (ls ++ l ∷ []) (start_in given images) [] (start_in given images) k q.compiled (binds-start given images) refl a) (holds-start given images) (range k r a b) in
     record {

@@ -26,6 +26,7 @@ pub mod RestartLaws
 pub mod ListingLaws
 pub mod DraftLaws
 pub mod LevelLaws
+pub mod GrownLaws
 pub mod StockLaws
 pub mod ImageLaws
 pub mod CompileLaws

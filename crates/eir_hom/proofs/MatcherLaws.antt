@@ -97,7 +97,7 @@ range-is ts cs slots m l images r n h f =
     let b = bound-some m n.seen l.key n.binds n.compiled.key_seen in
     let at : get_or images l.key 0 ≡ unwrap_or (bound_to m l.key) 0 = rw b.1 (h.images_are l.key b.0 b.1) in
     record {
-      rows = ap (λ i. rows_in ts.cells i r) (sym n.compiled.stride) ∙ f.rows ∙ ap (λ i. get_or (table_at ts l.table).rows i []) at;
+      rows = ap (λ i. rows_in ts.cells i r) (sym n.compiled.stride) ∙ f.rows ∙ ap (λ i. get_or (table_at ts.tables l.table).rows i []) at;
       within = rw n.compiled.stride at f.within;
     }
 

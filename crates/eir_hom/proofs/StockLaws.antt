@@ -1,11 +1,12 @@
 -- The rows of a table are those of the facts that a fact may go to.
-use Rattle.std.proofs.Common.{◌≡◌, ◌<◌, ℕ, zero, suc, ◌+◌, Bool, true, false, cond, eqb, ◌==◌, ◌&&◌, List, [], ◌∷◌, ◌++◌, map, filter, take, drop, length, get_or, Option, Some, None, option_map, unwrap_or, slice_get, refl, sym, ap, ap₂, ◌∙◌, subst, inl, inr, add-one, append-nil, arith}
-use Rattle.std.proofs.lemmas.List.{get_or-map, map-append, take-map, drop-map, take_more, length-map, length-append, length-take, length-drop}
+use Rattle.std.proofs.Common.{◌≡◌, ◌<◌, ◌≤◌, ℕ, zero, suc, ◌+◌, ◌*◌, Bool, true, false, cond, eqb, ◌==◌, ◌&&◌, List, [], ◌∷◌, ◌++◌, map, filter, take, drop, length, get_or, Option, Some, None, option_map, unwrap_or, slice_get, refl, sym, ap, ap₂, ◌∙◌, subst, inl, inr, add-one, append-nil, mul-le-mul_right, arith}
+use Rattle.std.proofs.lemmas.List.{get_or-map, get_or-take, map-append, take-map, drop-map, take_more, length-map, length-append, length-take, length-drop, length_push}
+use Rattle.std.proofs.lemmas.List.Sums.{sum_by-drop_more}
+use Rattle.std.proofs.lemmas.List.FromFn.{length-map-range_with_len, sum_by-map-range_with_len_more}
 use Rattle.std.proofs.lemmas.List.Elements.{filter-append}
-use Rattle.std.proofs.Math.Seq.{get_or-append_seam}
 use Rattle.std.proofs.lemmas.Bool.{cases_Bool, false≢true, and_parts}
 use Rattle.std.proofs.lemmas.Bool.Decides.{Decides-eqb}
-use Rattle.std.specs.List.{range_with_len}
+use Rattle.std.specs.List.{range_with_len, flat_map, sum_by}
 use Rattle.eir_term.specs.declared.val.Val.{Val}
 use Rattle.eir_term.specs.declared.fact.Fact.{Fact}
 use Rattle.eir_term.specs.Lists.{◌∈◌, places}
@@ -14,16 +15,19 @@ use Rattle.eir_term.specs.Instances.{values}
 use Rattle.eir_term.specs.Profiles.{Mark, profile, is_within}
 use Rattle.eir_term.specs.Plans.{fits_profiles}
 use Rattle.eir_term.proofs.ListLaws.{slice_get-place_of, ∈-filter_from, ∈-map_from}
-use Rattle.eir_hom.specs.Tables.{Table}
+use Rattle.eir_hom.specs.Tables.{Table, LaidView}
 use Rattle.eir_term.proofs.HomLaws.{∈-values}
+use Rattle.eir_hom.specs.declared.fits.Fits.{Fits}
 use Rattle.eir_hom.specs.declared.stock.Shape.{Shape}
+use Rattle.eir_hom.specs.declared.stock.Bench.{Bench}
 use Rattle.eir_hom.specs.Levels.{number, but_at, may_go, has_number, row_of, rows_for}
 use Rattle.eir_hom.specs.FactRows.{numbers_at, row_at, Within, HaveRows}
-use Rattle.eir_hom.specs.Groups.{AllUnder, picked}
-use Rattle.eir_hom.specs.Fits.{fits_row}
-use Rattle.eir_hom.specs.Stocks.{are_fits, fact_table, shape_table, no_table, rel_of, HaveSameRows, AreAlike, IsShape, IsStock, AreShapes, may_be_at, key_at, key_count}
-use Rattle.eir_hom.proofs.Tallies.{map-range-same, AllUnder-at}
+use Rattle.eir_hom.specs.Groups.{AllUnder, picked, under}
+use Rattle.eir_hom.specs.Fits.{are_fits, fits_row}
+use Rattle.eir_hom.specs.Stocks.{fact_table, shape_table, no_table, rel_of, IsShape, AreShapes, may_be_at, key_at, key_count, cells_for, cells_needed, ranges_needed, HasRoom, IsStocked}
+use Rattle.eir_hom.proofs.Tallies.{map-range-same, AllUnder-at, under-zero, under-more, under-le, length-picked}
 use Rattle.eir_hom.proofs.FitLaws.{AllUnder-∈, map-map, eqb-apart}
+use Rattle.eir_hom.proofs.TableLaws.{length-all_rows}
 
 -- what is found at a place
 pub get_or-found : {X : Type 0} (xs : List X) (i : ℕ) (x d : X) → slice_get xs i ≡ Some x → (i < length xs) × (get_or xs i d ≡ x)
@@ -77,7 +81,7 @@ module _ (A B : List Fact) where
       let r = get_or-found (values A) n v v e in
       ap (λ xs. get_or xs n []) (map-map (λ p. map (is_within p) (map (profile B) (values B))) (profile A) (values A)) ∙ get_or-map (λ v. map (is_within (profile A v)) (map (profile B) (values B))) (values A) n v [] r.0 ∙ ap (λ v. map (is_within (profile A v)) (map (profile B) (values B))) r.1
 
-  length-answers : (n : ℕ) → n < length (values A) → length (get_or (are_fits A B) n []) ≡ length (values B)
+  pub length-answers : (n : ℕ) → n < length (values A) → length (get_or (are_fits A B) n []) ≡ length (values B)
   length-answers n h =
       let f = slice_get-there (values A) n h in
       ap length (answers-row f.0 n f.1) ∙ length-map (map (profile B) (values B)) (is_within (profile A f.0)) ∙ length-map (values B) (profile B)
@@ -94,17 +98,6 @@ module _ (A B : List Fact) where
   fits-are (v ∷ vs) [] a b = refl
   fits-are (v ∷ vs) (w ∷ ws) a b =
       ap₂ (λ x y. x && y) (answer-is v w (a v (inl refl)) (b w (inl refl))) (fits-are vs ws (λ u h. a u (inr h)) (λ u h. b u (inr h)))
-
--- rows that may go to the same numbers fit the same rows
-fits-alike : (t : List (List Bool)) (ns os ms : List ℕ) → map (λ n. get_or t n []) ns ≡ map (λ n. get_or t n []) os → fits_row t ns ms ≡ fits_row t os ms
-fits-alike t [] [] ms e = refl
-fits-alike t [] (o ∷ os) ms e = absurd (let n = ap length e in omega arith)
-fits-alike t (n ∷ ns) [] ms e = absurd (let n = ap length e in omega arith)
-fits-alike t (n ∷ ns) (o ∷ os) [] e = refl
-fits-alike t (n ∷ ns) (o ∷ os) (m ∷ ms) e =
-    let h : get_or t n [] ≡ get_or t o [] = cc in
-    let r : map (λ n. get_or t n []) ns ≡ map (λ n. get_or t n []) os = cc in
-    ap₂ (λ x y. get_or x m false && y) h (fits-alike t ns os ms r)
 
 pub fits-length : (t : List (List Bool)) (ns ms : List ℕ) → fits_row t ns ms ≡ true → length ns ≡ length ms
 fits-length t [] [] e = refl
@@ -263,44 +256,8 @@ module _ (A B : List Fact) (s : Shape) (f : Fact) (found : slice_get A s.place �
       λ w. one_key (Some i) w (λ g. fits_profiles A B f.args g.args && has_number B i w g) (λ p g e. key-is i p w g wide e) ∙ ap (map (row_of B (Some i))) (filter-same (λ g. (g.rel == rel_of A s.place) && (fits_profiles A B f.args g.args && has_number B i w g)) (λ g. may_go A B f g && has_number B i w g) B (λ g h. ap (λ b. b && (fits_profiles A B f.args g.args && has_number B i w g)) (rel g) ∙ and-apart (f.rel == g.rel) (fits_profiles A B f.args g.args) (has_number B i w g))) in
       map-map (map (row_at B (Some i))) (picked keys P) (range_with_len 0 (length (values B) + 1)) ∙ ap (λ n. map (λ w. map (row_at B (Some i)) (picked keys P w)) (range_with_len 0 n)) (add-one (length (values B))) ∙ map-range-same (λ w. map (row_at B (Some i)) (picked keys P w)) (λ w. map (row_of B (Some i)) (filter (λ g. may_go A B f g && has_number B i w g) B)) 0 (suc (length (values B))) (λ w a b. one w)
 
--- facts of one relation whose values may go to the same ones have one table
-module _ (A B : List Fact) (s t : Shape) (f g : Fact) (f_at : slice_get A s.place ≡ Some f) (g_at : slice_get A t.place ≡ Some g) (same : HaveSameRows A (are_fits A B) s.place t.place) where
-  rels : f.rel ≡ g.rel
-  rels = sym (rel-is A B s f f_at) ∙ same.0 ∙ rel-is A B t g g_at
-
-  answers : map (λ n. get_or (are_fits A B) n []) (map (number A) f.args) ≡ map (λ n. get_or (are_fits A B) n []) (map (number A) g.args)
-  answers =
-      let row : List ℕ → List (List Bool) = map (λ n. get_or (are_fits A B) n []) in
-      ap row (sym (ns A B s f f_at)) ∙ same.1 ∙ ap row (ns A B t g g_at)
-
-  as_long : length f.args ≡ length g.args
-  as_long =
-      omega (arith, ap length answers, length-map (map (number A) f.args) (λ n. get_or (are_fits A B) n []), length-map (map (number A) g.args) (λ n. get_or (are_fits A B) n []), length-map f.args (number A), length-map g.args (number A))
-
-  may_go-same : (h : Fact) → h ∈ B → may_go A B f h ≡ may_go A B g h
-  may_go-same h m =
-      let a = args-among A s.place f f_at in
-      let b = args-among A t.place g g_at in
-      let c : (v : Val) → v ∈ h.args → v ∈ values B = λ v k. ∈-values v h B m k in
-      ap₂ (λ r fits. (r == h.rel) && fits) rels (sym (fits-are A B f.args h.args a c) ∙ fits-alike (are_fits A B) (map (number A) f.args) (map (number A) g.args) (map (number B) h.args) answers ∙ fits-are A B g.args h.args b c)
-
-  rows_for-same : (i : Option ℕ) → rows_for A B f i ≡ rows_for A B g i
-  rows_for-same None = ap (λ xs. map (row_of B None) xs ∷ []) (filter-same (may_go A B f) (may_go A B g) B may_go-same)
-  rows_for-same (Some i) =
-      map-range-same (λ w. map (row_of B (Some i)) (filter (λ h. may_go A B f h && has_number B i w h) B)) (λ w. map (row_of B (Some i)) (filter (λ h. may_go A B g h && has_number B i w h) B)) 0 (suc (length (values B))) (λ w a b. ap (map (row_of B (Some i))) (filter-same (λ h. may_go A B f h && has_number B i w h) (λ h. may_go A B g h && has_number B i w h) B (λ h m. ap (λ x. x && has_number B i w h) (may_go-same h m))))
-
-  table-same : (i : Option ℕ) → fact_table A B i f ≡ fact_table A B i g
-  table-same i =
-      ap₂ (λ n rows. let x : Table = record { stride = n; rows = rows } in x) (length-but_at i f.args g.args as_long) (rows_for-same i)
-
 table-of : (A B : List Fact) (s : Shape) (f : Fact) → slice_get A s.place ≡ Some f → shape_table A B s ≡ fact_table A B s.column f
 table-of A B s f e = ap (λ o. unwrap_or (option_map (fact_table A B s.column) o) no_table) e
-
-pub table-alike : (A B : List Fact) (s t : Shape) → AreAlike A (are_fits A B) s t → s.place < length A → t.place < length A → shape_table A B s ≡ shape_table A B t
-table-alike A B s t alike p r =
-    let f = slice_get-there A s.place p in
-    let g = slice_get-there A t.place r in
-    table-of A B s f.0 f.1 ∙ table-same A B s t f.0 g.0 f.1 g.1 alike.1 s.column ∙ ap (λ i. fact_table A B i g.0) alike.0 ∙ sym (table-of A B t g.0 g.1)
 
 -- the table that is made is that of the shape
 pub made-table : (A B : List Fact) (s : Shape) → s.place < length A → Within s.column (numbers_at A s.place) → (stride : ℕ) → stride ≡ length (but_at s.column (numbers_at A s.place)) →
@@ -340,10 +297,6 @@ AreShapes-at A [] i d h all = absurd (omega arith)
 AreShapes-at A (s ∷ ss) zero d h all = all.0
 AreShapes-at A (s ∷ ss) (suc i) d h all = AreShapes-at A ss i d (omega arith) all.1
 
-pub AreShapes-push : (A : List Fact) (ss : List Shape) (s : Shape) → AreShapes A ss → IsShape A s → AreShapes A (ss ++ s ∷ [])
-AreShapes-push A [] s all one = (one, tt)
-AreShapes-push A (r ∷ ss) s all one = (all.0, AreShapes-push A ss s all.1 one)
-
 -- a turn of the loop over places
 pub gathered-yes : (t : ℕ → Bool) (items ps : List ℕ) (i : ℕ) → i < length items → t (get_or items i 0) ≡ true → ps ≡ filter t (take i items) → ps ++ get_or items i 0 ∷ [] ≡ filter t (take (i + 1) items)
 gathered-yes t items ps i h e p = ap (λ xs. xs ++ get_or items i 0 ∷ []) p ∙ sym (filter-more t items i true h e)
@@ -351,8 +304,39 @@ gathered-yes t items ps i h e p = ap (λ xs. xs ++ get_or items i 0 ∷ []) p �
 pub gathered-no : (t : ℕ → Bool) (items ps : List ℕ) (i : ℕ) → i < length items → t (get_or items i 0) ≡ false → ps ≡ filter t (take i items) → ps ≡ filter t (take (i + 1) items)
 gathered-no t items ps i h e p = p ∙ sym (filter-more t items i false h e ∙ append-nil (filter t (take i items)))
 
+-- what passes is no more than what there is
+length-filter-le : (t : ℕ → Bool) (xs : List ℕ) → length (filter t xs) ≤ length xs
+length-filter-le t [] = omega arith
+length-filter-le t (x ∷ xs) = elim (cases_Bool (t x)) [ inl h ↦ rw h (omega (arith, length-filter-le t xs)) | inr h ↦ rw h (omega (arith, length-filter-le t xs)) ]
+
+pub length-places-le : (r : Fact → Bool) (n : ℕ) (B : List Fact) → length (places r n B) ≤ length B
+length-places-le r n [] = omega arith
+length-places-le r n (g ∷ B) = elim (cases_Bool (r g)) [ inl h ↦ rw h (omega (arith, length-places-le r (suc n) B)) | inr h ↦ rw h (omega (arith, length-places-le r (suc n) B)) ]
+
+-- as far as a loop over places has come there is room for one more
+pub gathered-room : (t : ℕ → Bool) (r : Fact → Bool) (B : List Fact) (items ps : List ℕ) (i : ℕ) → items ≡ places r 0 B → i < length items → ps ≡ filter t (take i items) → length ps < length B
+gathered-room t r B items ps i e h p =
+    omega (arith, ap length e, length-places-le r 0 B, ap length p, length-filter-le t (take i items), length-take i items)
+
+pub length-may_be_at : (A B : List Fact) (s : Shape) → length (may_be_at A B (are_fits A B) s) ≤ length B
+length-may_be_at A B s =
+    let r : Fact → Bool = λ g. g.rel == rel_of A s.place in
+    omega (arith, length-filter-le (λ p. fits_row (are_fits A B) (numbers_at A s.place) (numbers_at B p)) (places r 0 B), length-places-le r 0 B)
+
+pub key_count-le : (B : List Fact) (i : Option ℕ) → key_count B i ≤ length (values B) + 1
+key_count-le B None = omega arith
+key_count-le B (Some i) = omega arith
+
+-- there are as many in all groups as there are keys below their number
+picked-count : (ks xs : List ℕ) (n : ℕ) → length ks ≡ length xs → sum_by length (map (picked ks xs) (range_with_len 0 n)) ≡ under ks n
+picked-count ks xs zero e = sym (under-zero ks)
+picked-count ks xs (suc n) e =
+    let more : sum_by length (map (picked ks xs) (range_with_len 0 (n + 1))) ≡ under ks (n + 1) =
+    sum_by-map-range_with_len_more length (picked ks xs) 0 n n (omega arith) ∙ (omega (arith, picked-count ks xs n e, length-picked ks xs n e, under-more ks n)) in
+    rw add-one at more
+
 -- a table for a shape, as it is made
-module _ (A B : List Fact) (ts : List Table) (ss : List Shape) (stock : IsStock A B ts ss) (s : Shape) (shape : IsShape A s) (gs : List (List ℕ)) (keys P : List ℕ) (stride count : ℕ) (p : P ≡ may_be_at A B (are_fits A B) s) (k : keys ≡ map (key_at B s.column) P) (n : count ≡ key_count B s.column) where
+module _ (A B : List Fact) (s : Shape) (shape : IsShape A s) (gs : List (List ℕ)) (keys P : List ℕ) (stride count : ℕ) (p : P ≡ may_be_at A B (are_fits A B) s) (k : keys ≡ map (key_at B s.column) P) (n : count ≡ key_count B s.column) where
   its_fact : (f : Fact) × (slice_get A s.place ≡ Some f)
   its_fact = slice_get-there A s.place shape.0
 
@@ -372,17 +356,76 @@ module _ (A B : List Fact) (ts : List Table) (ss : List Shape) (stock : IsStock 
     rows-there =
         rw groups-are (have_rows A B s its_fact.0 its_fact.1 shape.1 (map (key_at B s.column) (may_be_at A B (are_fits A B) s)) (key_count B s.column) stride e)
 
-    its_table : (let x : Table = record { stride = stride; rows = map (map (row_at B s.column)) gs } in x) ≡ shape_table A B s
+    pub its_table : (let x : Table = record { stride = stride; rows = map (map (row_at B s.column)) gs } in x) ≡ shape_table A B s
     its_table = rw groups-are (made-table A B s shape.0 shape.1 stride e)
 
-    module _ (more : List Table) (m : more ≡ ts ++ record { stride = stride; rows = map (map (row_at B s.column)) gs } ∷ []) where
-      pub tables-are : more ≡ map (shape_table A B) (ss ++ s ∷ [])
-      tables-are = m ∙ ap₂ (λ xs x. xs ++ x ∷ []) stock.tables its_table ∙ sym (map-append (shape_table A B) ss (s ∷ []))
+    pub its_keys : length gs ≡ key_count B s.column
+    its_keys = ap length g ∙ length-map-range_with_len (picked keys P) 0 count ∙ n
 
-      pub stock-more : (made : List Shape) → made ≡ ss ++ s ∷ [] → IsStock A B more made
-      stock-more made f = rw f (record { tables = tables-are; shapes = AreShapes-push A ss s stock.shapes shape })
+    -- there is room for its rows
+    pub its_cells : length (flat_map (flat_map (row_at B s.column)) gs) ≤ cells_for A B s
+    its_cells =
+        let rows = length-all_rows (row_at B s.column) stride gs (λ ps m q h. (rows-there ps m q h).1) in
+        let paired : length keys ≡ length P = ap length k ∙ length-map P (key_at B s.column) in
+        let few : sum_by length gs ≤ length B =
+        omega (arith, ap (sum_by length) g, picked-count keys P count paired, under-le keys count, paired, ap length p, length-may_be_at A B s) in
+        let less : sum_by length gs * stride ≤ length B * stride = mul-le-mul_right stride few in
+        let same : length B * stride ≡ cells_for A B s = ap (λ m. length B * m) e in
+        omega arith
 
-      pub last-found : (t : ℕ) → t ≡ length ss → get_or more t no_table ≡ shape_table A B s
-      last-found t f =
-          let l : length ts ≡ length ss = ap length stock.tables ∙ length-map ss (shape_table A B) in
-          ap₂ (λ xs i. get_or xs i no_table) m (f ∙ sym l) ∙ get_or-append_seam ts (let x : Table = record { stride = stride; rows = map (map (row_at B s.column)) gs } in x) [] no_table ∙ its_table
+-- what stands past the last shape
+abbrev pub no_shape : Shape
+no_shape = record { place = 0; column = None }
+
+get_or-any : {X : Type 0} (xs : List X) (i : ℕ) (d e : X) → i < length xs → get_or xs i d ≡ get_or xs i e
+get_or-any [] i d e h = absurd (omega arith)
+get_or-any (x ∷ xs) zero d e h = refl
+get_or-any (x ∷ xs) (suc i) d e h = get_or-any xs i d e (omega arith)
+
+-- the table that is laid for a place is that of its shape
+module _ (A B : List Fact) (fits : Fits) (ss : List Shape) (laid : LaidView) (bench : Bench) (so : IsStocked A B fits ss laid bench) where
+  laid_le : length laid.tables ≤ length ss
+  laid_le = omega (arith, ap length so.tables, length-map (take (length laid.tables) ss) (shape_table A B), length-take (length laid.tables) ss)
+
+  pub laid-at : (t : ℕ) (d : Table) → t < length laid.tables → get_or laid.tables t d ≡ get_or (map (shape_table A B) ss) t d
+  laid-at t d h =
+      ap (λ xs. get_or xs t d) (so.tables ∙ sym (take-map (shape_table A B) (length laid.tables) ss)) ∙ get_or-take (length laid.tables) (map (shape_table A B) ss) t d h
+
+  module _ (s : Shape) (h : length laid.tables < length ss) (at : s ≡ get_or ss (length laid.tables) s) where
+    here : s ≡ get_or ss (length laid.tables) no_shape
+    here = at ∙ get_or-any ss (length laid.tables) s no_shape h
+
+    cells_left : cells_needed A B (drop (length laid.tables) ss) ≡ cells_for A B s + cells_needed A B (drop (length laid.tables + 1) ss)
+    cells_left = sum_by-drop_more (cells_for A B) ss (length laid.tables) no_shape h ∙ ap (λ r. cells_for A B r + cells_needed A B (drop (length laid.tables + 1) ss)) (sym here)
+
+    ranges_left : ranges_needed B (drop (length laid.tables) ss) ≡ key_count B s.column + ranges_needed B (drop (length laid.tables + 1) ss)
+    ranges_left = sum_by-drop_more (λ r. key_count B r.column) ss (length laid.tables) no_shape h ∙ ap (λ (r : Shape). key_count B r.column + ranges_needed B (drop (length laid.tables + 1) ss)) (sym here)
+
+    -- it can be laid
+    pub is_shape : IsShape A s
+    is_shape = subst (IsShape A) (sym here) (AreShapes-at A ss (length laid.tables) no_shape h so.shapes)
+
+    pub room-cells : length laid.cells + cells_for A B s ≤ laid.cells_room
+    room-cells = omega (arith, so.cells_room, cells_left)
+
+    pub room-ranges : laid.ranges + key_count B s.column ≤ laid.ranges_room
+    room-ranges = omega (arith, so.ranges_room, ranges_left)
+
+    pub room-tables : length laid.tables < laid.tables_room
+    room-tables = omega (arith, so.tables_room)
+
+    -- and then it is laid
+    pub stocked-more : (new : LaidView) (after : Bench) → new.tables ≡ laid.tables ++ shape_table A B s ∷ [] → length new.cells ≤ length laid.cells + cells_for A B s → new.ranges ≡ laid.ranges + key_count B s.column →
+        laid.cells_room ≤ new.cells_room → laid.ranges_room ≤ new.ranges_room → laid.tables_room ≤ new.tables_room → HasRoom B after → IsStocked A B fits ss new after
+    stocked-more new after t c r cr rr tr room =
+        let long : length new.tables ≡ length laid.tables + 1 = ap length t ∙ length_push laid.tables (shape_table A B s) in
+        let taken : take (length laid.tables + 1) ss ≡ take (length laid.tables) ss ++ s ∷ [] = take_more ss (length laid.tables) no_shape h ∙ ap (λ x. take (length laid.tables) ss ++ x ∷ []) (sym here) in
+        record {
+          answers = so.answers;
+          shapes = so.shapes;
+          tables = t ∙ ap (λ xs. xs ++ shape_table A B s ∷ []) so.tables ∙ sym (map-append (shape_table A B) (take (length laid.tables) ss) (s ∷ [])) ∙ ap (map (shape_table A B)) (sym taken) ∙ ap (λ n. map (shape_table A B) (take n ss)) (sym long);
+          cells_room = rw long (omega (arith, so.cells_room, cells_left));
+          ranges_room = rw long (omega (arith, so.ranges_room, ranges_left));
+          tables_room = omega (arith, so.tables_room);
+          bench_room = room;
+        }

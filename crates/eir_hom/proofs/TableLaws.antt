@@ -1,9 +1,10 @@
 -- Where the rows of a table stand.
 use Rattle.std.proofs.Common.{◌≡◌, ◌≤◌, ◌<◌, ℕ, ◌+◌, ◌*◌, List, [], ◌∷◌, ◌++◌, map, take, drop, length, get_or, refl, sym, ap, ap₂, ◌∙◌, subst, zero, suc, inl, inr, append_assoc, length-append, append-nil, Some, option_map, slice_get, unwrap_or, arith}
-use Rattle.std.proofs.lemmas.List.{get_or-map, get_or-take, get_or-drop, drop-drop, take-append-le, drop-append-le, take_all, take_more, map-append}
+use Rattle.std.proofs.lemmas.List.{get_or-map, get_or-take, get_or-drop, drop-drop, take-append-le, drop-append-le, take-append-drop, take_all, take_more, map-append}
 use Rattle.std.proofs.lemmas.Grind.{flat_map-append}
+use Rattle.std.proofs.lemmas.List.Sums.{sum_by-cons}
 use Rattle.std.proofs.Math.Seq.{take-append_seam, drop-append_seam}
-use Rattle.std.specs.List.{range_with_len, flat_map}
+use Rattle.std.specs.List.{range_with_len, flat_map, sum_by}
 use Rattle.eir_term.specs.Lists.{◌∈◌}
 use Rattle.std.proofs.Math.ListN.{length-map, length-take, length-drop}
 use Rattle.eir_term.specs.declared.fact.Fact.{Fact}
@@ -12,7 +13,7 @@ use Rattle.eir_inst.specs.Numbers.{numbers_of}
 use Rattle.eir_hom.specs.declared.tables.Range.{Range}
 use Rattle.eir_hom.specs.declared.tables.Layout.{Layout}
 use Rattle.eir_hom.specs.FactRows.{numbers_at}
-use Rattle.eir_hom.specs.Tables.{Table, TablesView, rows_in, table_at}
+use Rattle.eir_hom.specs.Tables.{Table, LaidView, rows_in, table_at}
 use Rattle.eir_hom.specs.Layouts.{ranges_of, table_of, laid, AreWithin, IsLaid, AreLaid}
 
 -- what holds of each layout holds of the one at a place
@@ -35,17 +36,17 @@ length-ranges_of ranges l fits = omega (arith, length-take l.keys (drop l.first 
 range-at : (ranges : List Range) (l : Layout) (k : ℕ) (d : Range) → k < l.keys → get_or (ranges_of ranges l) k d ≡ get_or ranges (l.first + k) d
 range-at ranges l k d below = get_or-take l.keys (drop l.first ranges) k d below ∙ get_or-drop l.first ranges k d
 
-module _ (cells : List ℕ) (ranges : List Range) (layouts : List Layout) (v : TablesView) (seen : (let x : TablesView = record { cells = cells; tables = map (table_of cells ranges) layouts } in x) ≡ v) (laid : AreLaid cells ranges layouts) (t : ℕ) (l : Layout) (below : t < length v.tables) (at : l ≡ get_or layouts t l) where
+module _ (cells : List ℕ) (ranges : List Range) (layouts : List Layout) (v : LaidView) (seen_cells : cells ≡ v.cells) (seen : map (table_of cells ranges) layouts ≡ v.tables) (laid : AreLaid cells ranges layouts) (t : ℕ) (l : Layout) (below : t < length v.tables) (at : l ≡ get_or layouts t l) where
   below_layouts : t < length layouts
   below_layouts =
-      let e : length (map (table_of cells ranges) layouts) ≡ length v.tables = ap (λ x. length x.tables) seen in
+      let e : length (map (table_of cells ranges) layouts) ≡ length v.tables = ap length seen in
       omega (arith, length-map layouts (table_of cells ranges))
 
   -- the table is the one that the layout places
-  pub table-is : table_at v t ≡ table_of cells ranges l
+  pub table-is : table_at v.tables t ≡ table_of cells ranges l
   table-is =
       let d : Table = record { stride = 0; rows = [] } in
-      ap (λ x. get_or x.tables t d) (sym seen) ∙ get_or-map (table_of cells ranges) layouts t l d below_layouts ∙ ap (table_of cells ranges) (sym at)
+      ap (λ x. get_or x t d) (sym seen) ∙ get_or-map (table_of cells ranges) layouts t l d below_layouts ∙ ap (table_of cells ranges) (sym at)
 
   is_laid : IsLaid cells ranges l
   is_laid = subst (IsLaid cells ranges) (sym at) (AreLaid-at cells ranges layouts t l below_layouts laid)
@@ -62,14 +63,14 @@ module _ (cells : List ℕ) (ranges : List Range) (layouts : List Layout) (v : T
     is_range = found ∙ sym (range-at ranges l k r key)
 
     -- the rows of a key
-    pub rows-at : rows_in v.cells (table_at v t).stride r ≡ get_or (table_at v t).rows k []
+    pub rows-at : rows_in v.cells (table_at v.tables t).stride r ≡ get_or (table_at v.tables t).rows k []
     rows-at =
-        rw (table-is, ← ap (λ x. x.cells) seen, get_or-map (rows_in cells l.stride) (ranges_of ranges l) k r [] in_table) (ap (rows_in cells l.stride) is_range)
+        rw (table-is, ← seen_cells, get_or-map (rows_in cells l.stride) (ranges_of ranges l) k r [] in_table) (ap (rows_in cells l.stride) is_range)
 
     -- they are within the cells
-    pub within-at : r.first + r.count * (table_at v t).stride ≤ length v.cells
+    pub within-at : r.first + r.count * (table_at v.tables t).stride ≤ length v.cells
     within-at =
-        rw (table-is, ← ap (λ x. x.cells) seen) (subst (λ x. x.first + x.count * l.stride ≤ length cells) (sym is_range) (AreWithin-at cells l.stride (ranges_of ranges l) k r in_table is_laid.1))
+        rw (table-is, ← seen_cells) (subst (λ x. x.first + x.count * l.stride ≤ length cells) (sym is_range) (AreWithin-at cells l.stride (ranges_of ranges l) k r in_table is_laid.1))
 
 -- n rows cut off the front of cells
 cut : ℕ → ℕ → List ℕ → List (List ℕ)
@@ -112,6 +113,13 @@ length-rows row stride (p ∷ ps) all =
     let e : suc (length ps) * stride ≡ stride + length ps * stride = grind arith in
     omega (arith, length-append (row p) (flat_map row ps))
 
+pub length-all_rows : (row : ℕ → List ℕ) (stride : ℕ) (gs : List (List ℕ)) → ((ps : List ℕ) → ps ∈ gs → (p : ℕ) → p ∈ ps → length (row p) ≡ stride) → length (flat_map (flat_map row) gs) ≡ sum_by length gs * stride
+length-all_rows row stride [] all = omega arith
+length-all_rows row stride (ps ∷ gs) all =
+    let e : (length ps + sum_by length gs) * stride ≡ length ps * stride + sum_by length gs * stride = grind arith in
+    let c : sum_by length (ps ∷ gs) * stride ≡ (length ps + sum_by length gs) * stride = ap (λ n. n * stride) (sum_by-cons length ps gs) in
+    omega (arith, c, e, length-append (flat_map row ps) (flat_map (flat_map row) gs), length-rows row stride ps (λ p h. all ps (inl refl) p h), length-all_rows row stride gs (λ qs h. all qs (inr h)))
+
 -- the ranges of groups have their rows
 module _ (row : ℕ → List ℕ) (stride : ℕ) where
   rows-laid : (cells : List ℕ) (gs : List (List ℕ)) → ((ps : List ℕ) → ps ∈ gs → (p : ℕ) → p ∈ ps → length (row p) ≡ stride) → map (rows_in (cells ++ flat_map (flat_map row) gs) stride) (laid row (length cells) gs) ≡ map (map row) gs
@@ -134,7 +142,7 @@ module _ (row : ℕ → List ℕ) (stride : ℕ) where
       let l = length-rows row stride ps (λ p h. all ps (inl refl) p h) in
       (omega (arith, length-append cells (here ++ later), length-append here later), subst (λ xs. AreWithin xs stride (laid row (length cells + length here) gs)) (append_assoc cells here later) (subst (λ n. AreWithin ((cells ++ here) ++ later) stride (laid row n gs)) (length-append cells here) (within-laid (cells ++ here) gs (λ qs h. all qs (inr h)))))
 
-length-laid : (row : ℕ → List ℕ) (n : ℕ) (gs : List (List ℕ)) → length (laid row n gs) ≡ length gs
+pub length-laid : (row : ℕ → List ℕ) (n : ℕ) (gs : List (List ℕ)) → length (laid row n gs) ≡ length gs
 length-laid row n [] = refl
 length-laid row n (ps ∷ gs) = ap suc (length-laid row (n + length (flat_map row ps)) gs)
 
@@ -151,7 +159,7 @@ ranges_of-append : (xs ys : List Range) (l : Layout) → l.first + l.keys ≤ le
 ranges_of-append xs ys l h =
     ap (take l.keys) (drop-append-le l.first xs ys (omega arith)) ∙ take-append-le l.keys (drop l.first xs) ys (omega (arith, length-drop l.first xs))
 
-rows_in-append : (cells more : List ℕ) (stride : ℕ) (r : Range) → r.first + r.count * stride ≤ length cells → rows_in (cells ++ more) stride r ≡ rows_in cells stride r
+pub rows_in-append : (cells more : List ℕ) (stride : ℕ) (r : Range) → r.first + r.count * stride ≤ length cells → rows_in (cells ++ more) stride r ≡ rows_in cells stride r
 rows_in-append cells more stride r h =
     rows_in-cut (cells ++ more) stride r ∙ ap (cut stride r.count) (drop-append-le r.first cells more (omega arith)) ∙ cut-append stride r.count (drop r.first cells) more (omega (arith, length-drop r.first cells)) ∙ sym (rows_in-cut cells stride r)
 
@@ -217,6 +225,15 @@ pub ∈-at : {X : Type 0} (xs : List X) (i : ℕ) (d : X) → i < length xs → 
 ∈-at (x ∷ xs) zero d h = inl refl
 ∈-at (x ∷ xs) (suc i) d h = inr (∈-at xs i d (omega arith))
 
+-- a row and those before are within all
+pub row-left : (row : ℕ → List ℕ) (cells now : List ℕ) (ps : List ℕ) (i : ℕ) → now ≡ cells ++ flat_map row (take i ps) → i < length ps → length now + length (row (get_or ps i 0)) ≤ length cells + length (flat_map row ps)
+row-left row cells now ps i e h =
+    let one : flat_map row (take (i + 1) ps) ≡ flat_map row (take i ps) ++ row (get_or ps i 0) =
+    ap (flat_map row) (take_more ps i 0 h) ∙ flat_map-append row (take i ps) (get_or ps i 0 ∷ []) ∙ ap (λ xs. flat_map row (take i ps) ++ xs) (append-nil (row (get_or ps i 0))) in
+    let all : flat_map row ps ≡ flat_map row (take (i + 1) ps) ++ flat_map row (drop (i + 1) ps) =
+    ap (flat_map row) (sym (take-append-drop (i + 1) ps)) ∙ flat_map-append row (take (i + 1) ps) (drop (i + 1) ps) in
+    omega (arith, ap length e, length-append cells (flat_map row (take i ps)), ap length one, length-append (flat_map row (take i ps)) (row (get_or ps i 0)), ap length all, length-append (flat_map row (take (i + 1) ps)) (flat_map row (drop (i + 1) ps)))
+
 -- a turn of the loop over groups
 module _ (row : ℕ → List ℕ) (cells now : List ℕ) (gs : List (List ℕ)) (k : ℕ) (ps : List ℕ) (seen : now ≡ cells ++ flat_map (flat_map row) (take k gs)) (below : k < length gs) (at : ps ≡ get_or gs k []) where
   one_more : take (k + 1) gs ≡ take k gs ++ ps ∷ []
@@ -234,7 +251,14 @@ module _ (row : ℕ → List ℕ) (cells now : List ℕ) (gs : List (List ℕ)) 
       let first : length now ≡ length cells + length (flat_map (flat_map row) (take k gs)) = ap length seen ∙ length-append cells (flat_map (flat_map row) (take k gs)) in
       ap₂ (λ xs n. xs ++ r n ∷ []) e first ∙ append_assoc old (laid row (length cells) (take k gs)) (r (length cells + length (flat_map (flat_map row) (take k gs))) ∷ []) ∙ ap (λ xs. old ++ xs) (sym (ap (laid row (length cells)) one_more ∙ laid-more row (length cells) (take k gs) ps))
 
-module _ (cells : List ℕ) (ranges : List Range) (layouts : List Layout) (v : TablesView) (seen : (let x : TablesView = record { cells = cells; tables = map (table_of cells ranges) layouts } in x) ≡ v) (kept : AreLaid cells ranges layouts) (row : ℕ → List ℕ) (stride : ℕ) (gs : List (List ℕ)) (all : (ps : List ℕ) → ps ∈ gs → (p : ℕ) → p ∈ ps → length (row p) ≡ stride) (cells' : List ℕ) (ranges' : List Range) (layouts' : List Layout) (first keys : ℕ) (c : cells' ≡ cells ++ flat_map (flat_map row) gs) (r : ranges' ≡ ranges ++ laid row (length cells) gs) (l : layouts' ≡ layouts ++ record { first = first; keys = keys; stride = stride } ∷ []) (f : first ≡ length ranges) (k : keys ≡ length gs) where
+  -- the rows of a group and those before are within all
+  pub rows-left : length now + length (flat_map row ps) ≤ length cells + length (flat_map (flat_map row) gs)
+  rows-left =
+      let all : flat_map (flat_map row) gs ≡ flat_map (flat_map row) (take (k + 1) gs) ++ flat_map (flat_map row) (drop (k + 1) gs) =
+      ap (flat_map (flat_map row)) (sym (take-append-drop (k + 1) gs)) ∙ flat_map-append (flat_map row) (take (k + 1) gs) (drop (k + 1) gs) in
+      omega (arith, ap length cells-step, length-append now (flat_map row ps), length-append cells (flat_map (flat_map row) (take (k + 1) gs)), ap length all, length-append (flat_map (flat_map row) (take (k + 1) gs)) (flat_map (flat_map row) (drop (k + 1) gs)))
+
+module _ (cells : List ℕ) (ranges : List Range) (layouts : List Layout) (v : LaidView) (seen : map (table_of cells ranges) layouts ≡ v.tables) (kept : AreLaid cells ranges layouts) (row : ℕ → List ℕ) (stride : ℕ) (gs : List (List ℕ)) (all : (ps : List ℕ) → ps ∈ gs → (p : ℕ) → p ∈ ps → length (row p) ≡ stride) (cells' : List ℕ) (ranges' : List Range) (layouts' : List Layout) (first keys : ℕ) (c : cells' ≡ cells ++ flat_map (flat_map row) gs) (r : ranges' ≡ ranges ++ laid row (length cells) gs) (l : layouts' ≡ layouts ++ record { first = first; keys = keys; stride = stride } ∷ []) (f : first ≡ length ranges) (k : keys ≡ length gs) where
   layouts-are : layouts' ≡ layouts ++ next_layout cells ranges layouts row stride gs kept all ∷ []
   unfolding next_layout
   layouts-are = l ∙ ap₂ (λ n m. layouts ++ (let x : Layout = record { first = n; keys = m; stride = stride } in x) ∷ []) f k
@@ -242,7 +266,7 @@ module _ (cells : List ℕ) (ranges : List Range) (layouts : List Layout) (v : T
   pub with_table-view : map (table_of cells' ranges') layouts' ≡ v.tables ++ record { stride = stride; rows = map (map row) gs } ∷ []
   with_table-view =
       let t : Table = record { stride = stride; rows = map (map row) gs } in
-      rw (c, r, layouts-are) (tables-push cells ranges layouts row stride gs kept all ∙ ap (λ x. x.tables ++ t ∷ []) seen)
+      rw (c, r, layouts-are) (tables-push cells ranges layouts row stride gs kept all ∙ ap (λ x. x ++ t ∷ []) seen)
 
   pub with_table-laid : AreLaid cells' ranges' layouts'
   with_table-laid = rw (c, r, layouts-are) (laid-push cells ranges layouts row stride gs kept all)

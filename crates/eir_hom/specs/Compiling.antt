@@ -3,6 +3,7 @@
 --   first_set known p ns      == the first column, counted on from p, whose number is marked
 --   marked known ns           == these flags with these numbers marked
 --   shapes_by A known ps      == the shapes of the facts at these places, in this order
+--   drafts_of n ss            == the drafts of levels with these shapes, each with a table of its own, counted on from n
 --   AreDrafts A B tables ds ss == each draft has one of these shapes, and names a table of its shape
 use Rattle.std.specs.Prelude.{◌≡◌, ℕ, suc, ◌<◌, ◌==◌, Bool, false, true, cond, List, [], ◌∷◌, take, drop, length, Option, Some, None, slice_index, slice_index_or, slice_set}
 use Rattle.eir_term.specs.declared.val.Val.{Val}
@@ -18,7 +19,7 @@ use Rattle.eir_hom.specs.FactRows.{numbers_at, row_at}
 use Rattle.eir_hom.specs.Matching.{Bindings, Level}
 use Rattle.eir_hom.specs.Columns.{is_among, seen_after}
 use Rattle.eir_hom.specs.Tables.{Table}
-use Rattle.eir_hom.specs.Stocks.{no_table, shape_table, IsShape, IsStock}
+use Rattle.eir_hom.specs.Stocks.{no_table, shape_table, IsShape}
 
 -- the number of the image of v, where the start gives v or v is fixed
 abbrev pub given_image : List Fact → List (Val × Val) → Val → Option ℕ
@@ -54,6 +55,11 @@ abbrev pub shapes_by : List Fact → List Bool → List ℕ → List Shape
 shapes_by A known [] = []
 shapes_by A known (p ∷ ps) =
     record { place = p; column = first_set known 0 (numbers_at A p) } ∷ shapes_by A (marked known (numbers_at A p)) ps
+
+-- the drafts of levels with these shapes, each with a table of its own, counted on from n
+abbrev pub drafts_of : ℕ → List Shape → List Draft
+drafts_of n [] = []
+drafts_of n (s ∷ ss) = record { shape = s; table = n } ∷ drafts_of (suc n) ss
 
 -- these are places of facts
 abbrev pub ArePlaces : List Fact → List ℕ → Type 0
@@ -94,8 +100,8 @@ AreReadyDrafts A tables seen (d ∷ ds) =
     IsShape A d.shape × (d.table < length tables) × ((slice_index_or tables d.table no_table).stride ≡ length (row_at A d.shape.column d.shape.place)) × (is_among (draft_level A tables d).key seen ≡ true) × AreReadyDrafts A tables (seen_after seen (row_at A d.shape.column d.shape.place)) ds
 
 -- how far the drafts are made: the first i, where these flags are set
-pub record AreDrafted (A B : List Fact) (ts : List Table) (made : List Shape) (ds : List Draft) (ss : List Shape) (known : List Bool) (i : ℕ) (plan : List ℕ) : Type 0 where
-  pub stock : IsStock A B ts made
-  pub drafts : AreDrafts A B ts ds (take i ss)
+pub record AreDrafted (A : List Fact) (made : List Shape) (ds : List Draft) (ss : List Shape) (known : List Bool) (i : ℕ) (plan : List ℕ) : Type 0 where
+  pub shapes : made ≡ take i ss
+  pub drafts : ds ≡ drafts_of 0 made
   pub rest : drop i ss ≡ shapes_by A known (drop i plan)
   pub flags : length known ≡ length (values A)

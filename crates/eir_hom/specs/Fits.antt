@@ -1,10 +1,17 @@
 -- Which values may go to which, by number (this project's own).
---   fits_row t ns ms       == whether each number of the one row may go to the one at its column, by the table of answers
---   answers_at w as i js   == the answers for one kind and those of the other side, w to a kind
-use Rattle.std.specs.Prelude.{◌≡◌, ℕ, ◌+◌, ◌*◌, ◌<◌, Bool, true, false, ◌&&◌, List, [], ◌∷◌, map, length, slice_index, slice_index_or}
-use Rattle.eir_term.specs.Lists.{◌∈◌}
-use Rattle.eir_term.specs.Profiles.{Mark}
-use Rattle.eir_hom.specs.Groups.{AllUnder}
+--   are_fits A B        == whether each value of A may go to each of B, by their profiles
+--   fits_row t ns ms    == whether each number of the one row may go to the one at its column, by a table of answers
+--   AreFits A B fits    == the answers that are kept, if any, are these
+use Rattle.std.specs.Prelude.{◌≡◌, ℕ, Bool, true, false, ◌&&◌, List, [], ◌∷◌, map, slice_index_or}
+use Rattle.eir_term.specs.declared.fact.Fact.{Fact}
+use Rattle.eir_term.specs.Instances.{values}
+use Rattle.eir_term.specs.Profiles.{profile, is_within}
+use Rattle.eir_hom.specs.declared.fits.Fits.{Fits}
+use Rattle.eir_hom.specs.declared.fits.Fits.TheVariants.{Profiles, Answered}
+
+-- whether each value of A may go to each of B, by their profiles
+abbrev pub are_fits : List Fact → List Fact → List (List Bool)
+are_fits A B = map (λ p. map (is_within p) (map (profile B) (values B))) (map (profile A) (values A))
 
 -- whether each number may go to the one at its column; rows of different lengths do not fit
 abbrev pub fits_row : List (List Bool) → List ℕ → List ℕ → Bool
@@ -13,20 +20,7 @@ fits_row t [] (m ∷ ms) = false
 fits_row t (n ∷ ns) [] = false
 fits_row t (n ∷ ns) (m ∷ ms) = slice_index_or (slice_index_or t n []) m false && fits_row t ns ms
 
--- the answers for one kind and these of the other side, of which there are w
-abbrev pub answers_at : ℕ → List Bool → List ℕ → ℕ → List Bool
-answers_at w answers js i = map (λ j. slice_index_or answers (i * w + j) false) js
-
--- the answers for these kinds
-abbrev pub all_answers : ℕ → List Bool → List ℕ → List ℕ → List (List Bool)
-all_answers w answers is js = map (answers_at w answers js) is
-
--- each of these has its answer
-abbrev pub AreAnswered : ℕ → List Bool → List ℕ → List ℕ → Type 0
-AreAnswered w answers is js = (i j : ℕ) → i ∈ is → j ∈ js → i * w + j < length answers
-
--- each profile is that of the first value of its kind
-pub record AreKinds (ps : List (List Mark)) (of firsts : List ℕ) : Type 0 where
-  pub same : map (λ k. slice_index_or ps (slice_index firsts k) []) of ≡ ps
-  pub kinds : AllUnder (length firsts) of
-  pub values : AllUnder (length ps) firsts
+-- the answers that are kept, if any, are those of the profiles
+abbrev pub AreFits : List Fact → List Fact → Fits → Type 0
+AreFits A B Profiles = Unit {0}
+AreFits A B (Answered answers) = answers ≡ are_fits A B

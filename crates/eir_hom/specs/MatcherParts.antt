@@ -23,7 +23,7 @@ columns_at cs l = take l.stride (drop l.first_column cs)
 
 -- a level
 abbrev pub level_in : TablesView → List Column → CompiledLevel → Level
-level_in ts cs l = record { key = l.key; slots = slots_of (columns_at cs l); rows = (table_at ts l.table).rows }
+level_in ts cs l = record { key = l.key; slots = slots_of (columns_at cs l); rows = (table_at ts.tables l.table).rows }
 
 -- all levels
 abbrev pub levels_in : TablesView → List Column → List CompiledLevel → List Level
@@ -36,7 +36,7 @@ start_in given images = map (λ s. (s, get_or images s 0)) given
 -- the parts of a level are there, and its columns follow on these slots
 pub record IsCompiled (ts : TablesView) (cs : List Column) (n : ℕ) (seen : List ℕ) (l : CompiledLevel) : Type 0 where
   pub table : l.table < length ts.tables
-  pub stride : (table_at ts l.table).stride ≡ l.stride
+  pub stride : (table_at ts.tables l.table).stride ≡ l.stride
   pub columns : l.first_column + l.stride ≤ length cs
   pub key_seen : is_among l.key seen ≡ true
   pub key_below : l.key < n
@@ -50,8 +50,8 @@ AreCompiled ts cs n seen (l ∷ ls) = IsCompiled ts cs n seen l × AreCompiled t
 
 -- the range has the rows of the level's table for the number w
 pub record IsRangeFor (ts : TablesView) (l : CompiledLevel) (w : ℕ) (r : Range) : Type 0 where
-  pub rows : rows_in ts.cells (table_at ts l.table).stride r ≡ get_or (table_at ts l.table).rows w []
-  pub within : r.first + r.count * (table_at ts l.table).stride ≤ length ts.cells
+  pub rows : rows_in ts.cells (table_at ts.tables l.table).stride r ≡ get_or (table_at ts.tables l.table).rows w []
+  pub within : r.first + r.count * (table_at ts.tables l.table).stride ≤ length ts.cells
 
 -- the range has the rows of the level after m
 pub record IsRange (ts : TablesView) (cs : List Column) (l : CompiledLevel) (r : Range) (m : Bindings) : Type 0 where

@@ -12,7 +12,7 @@
 --   Match                == what a contract sees of a matcher
 use Rattle.std.specs.Prelude.{ℕ, ◌==◌, cond, List, [], ◌∷◌, ◌++◌, map, length, get_or, Option, Some, None, is_some, option_and_then, unwrap_or, slice_get}
 use Rattle.eir_search.specs.Spaces.{Space}
-use Rattle.eir_hom.specs.Tables.{TablesView}
+use Rattle.eir_hom.specs.Tables.{Table}
 
 -- one level: the slot whose number picks the rows, the slots that a row binds, and the rows by that number
 pub record Level : Type 0 where
@@ -78,7 +78,7 @@ with_number m s w = map (λ p. (p.0, cond (p.0 == s) w p.1)) m
 -- choices that are placed
 pub record Match : Type 0 where
   pub slots : ℕ
-  pub tables : TablesView
+  pub tables : List Table
   pub levels : List Level
   pub start : Bindings
   pub placed : List ℕ

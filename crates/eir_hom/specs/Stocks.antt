@@ -1,26 +1,24 @@
--- The tables that facts of A need, and which facts share one (this project's own).
---   are_fits A B         == whether each value of A may go to each of B, by their profiles
+-- The tables that facts of A need, and the room to lay them (this project's own).
 --   shape_table A B s    == the table of the facts that a fact of A may go to, by its key column
 --   IsShape A s          == the shape is that of a fact, which has the column
---   HaveSameRows A t p q == the facts at two places have one relation, and values that may go to the same ones
---   AreAlike A t r s     == shapes of such facts with the same column
 --   may_be_at A B t s    == the places of the facts that the fact of a shape may go to
 --   key_at B i p         == the number at the column of the fact at a place
---   IsStock A B ts ss    == the tables are those of these shapes
-use Rattle.std.specs.Prelude.{◌≡◌, ℕ, ◌+◌, ◌==◌, Bool, List, [], ◌∷◌, map, filter, length, Option, Some, None, option_map, unwrap_or, slice_get, slice_index, slice_index_or}
+--   cells_for A B s      == how many cells a table has at most; cells_needed those of many together
+--   ranges_needed B ss   == how many ranges the tables of these shapes have
+--   HasRoom B bench      == a bench has room for the facts of B
+--   IsStocked A B .. bench == the tables of the first shapes are laid, and there is room for the others
+use Rattle.std.specs.Prelude.{◌≡◌, ℕ, ◌+◌, ◌*◌, ◌≤◌, ◌==◌, Bool, List, [], ◌∷◌, map, filter, length, take, drop, Option, Some, None, option_map, unwrap_or, slice_get, slice_index, vec_capacity}
+use Rattle.std.specs.List.{sum_by}
 use Rattle.eir_term.specs.declared.fact.Fact.{Fact}
 use Rattle.eir_term.specs.Lists.{places}
 use Rattle.eir_term.specs.Instances.{values}
-use Rattle.eir_term.specs.Profiles.{profile, is_within}
+use Rattle.eir_hom.specs.declared.fits.Fits.{Fits}
 use Rattle.eir_hom.specs.declared.stock.Shape.{Shape}
+use Rattle.eir_hom.specs.declared.stock.Bench.{Bench}
 use Rattle.eir_hom.specs.Levels.{but_at, rows_for}
 use Rattle.eir_hom.specs.FactRows.{IsPlace, numbers_at}
-use Rattle.eir_hom.specs.Tables.{Table}
-use Rattle.eir_hom.specs.Fits.{fits_row}
-
--- whether each value of A may go to each of B, by their profiles
-abbrev pub are_fits : List Fact → List Fact → List (List Bool)
-are_fits A B = map (λ p. map (is_within p) (map (profile B) (values B))) (map (profile A) (values A))
+use Rattle.eir_hom.specs.Tables.{Table, LaidView}
+use Rattle.eir_hom.specs.Fits.{fits_row, AreFits}
 
 -- a table with no row
 abbrev pub no_table : Table
@@ -47,18 +45,6 @@ AreShapes A (s ∷ ss) = IsShape A s × AreShapes A ss
 abbrev pub rel_of : List Fact → ℕ → ℕ
 rel_of A p = unwrap_or (option_map (λ f. f.rel) (slice_get A p)) 0
 
--- the values that each value of the fact at a place may go to
-abbrev pub answers_of : List Fact → List (List Bool) → ℕ → List (List Bool)
-answers_of A t p = map (λ n. slice_index_or t n []) (numbers_at A p)
-
--- the facts at two places have one relation, and values that may go to the same ones
-abbrev pub HaveSameRows : List Fact → List (List Bool) → ℕ → ℕ → Type 0
-HaveSameRows A t p q = (rel_of A p ≡ rel_of A q) × (answers_of A t p ≡ answers_of A t q)
-
--- shapes of such facts with the same column
-abbrev pub AreAlike : List Fact → List (List Bool) → Shape → Shape → Type 0
-AreAlike A t r s = (r.column ≡ s.column) × HaveSameRows A t r.place s.place
-
 -- the places of the facts that the fact of a shape may go to
 abbrev pub may_be_at : List Fact → List Fact → List (List Bool) → Shape → List ℕ
 may_be_at A B t s =
@@ -78,7 +64,31 @@ abbrev pub key_count : List Fact → Option ℕ → ℕ
 key_count B None = 1
 key_count B (Some i) = length (values B) + 1
 
--- the tables are those of these shapes
-pub record IsStock (A B : List Fact) (ts : List Table) (ss : List Shape) : Type 0 where
-  pub tables : ts ≡ map (shape_table A B) ss
+-- how many cells a table has at most: as many rows as B has facts
+abbrev pub cells_for : List Fact → List Fact → Shape → ℕ
+cells_for A B s = length B * length (but_at s.column (numbers_at A s.place))
+
+-- how many the tables of these shapes have at most together
+abbrev pub cells_needed : List Fact → List Fact → List Shape → ℕ
+cells_needed A B ss = sum_by (cells_for A B) ss
+
+-- how many ranges the tables of these shapes have
+abbrev pub ranges_needed : List Fact → List Shape → ℕ
+ranges_needed B ss = sum_by (λ s. key_count B s.column) ss
+
+-- the bench has room for the facts of B
+pub record HasRoom (B : List Fact) (bench : Bench) : Type 0 where
+  pub places : length B ≤ vec_capacity bench.places
+  pub keys : length B ≤ vec_capacity bench.keys
+  pub groups : length (values B) + 1 ≤ bench.groups.keys_room
+  pub members : length B ≤ bench.groups.members_room
+
+-- the tables of the first shapes are laid, and there is room for the others
+pub record IsStocked (A B : List Fact) (fits : Fits) (ss : List Shape) (laid : LaidView) (bench : Bench) : Type 0 where
+  pub answers : AreFits A B fits
   pub shapes : AreShapes A ss
+  pub tables : laid.tables ≡ map (shape_table A B) (take (length laid.tables) ss)
+  pub cells_room : length laid.cells + cells_needed A B (drop (length laid.tables) ss) ≤ laid.cells_room
+  pub ranges_room : laid.ranges + ranges_needed B (drop (length laid.tables) ss) ≤ laid.ranges_room
+  pub tables_room : length ss ≤ laid.tables_room
+  pub bench_room : HasRoom B bench

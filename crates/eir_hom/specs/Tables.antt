@@ -1,8 +1,10 @@
 -- Rows of numbers in flat memory (this project's own).
 --   Table                       == rows of one length, key by key
---   TablesView                  == what a contract sees of tables: the cells that their rows lie in, and the tables
+--   TablesView                  == what a contract sees of tables: the cells that rows lie in, and the tables
+--   LaidView                    == what a contract sees of tables that are laid: also how many ranges they have, and for
+--                                  how many cells, ranges and tables there is room
 --   rows_in cells stride range  == the rows that a range of cells has
---   table_at v t                == the table of a number
+--   table_at ts t               == the table of a number
 use Rattle.std.specs.Prelude.{ℕ, ◌+◌, ◌*◌, List, [], map, take, drop, slice_index_or}
 use Rattle.std.specs.List.{range_with_len}
 use Rattle.eir_hom.specs.declared.tables.Range.{Range}
@@ -17,10 +19,19 @@ pub record TablesView : Type 0 where
   pub cells : List ℕ
   pub tables : List Table
 
+-- what a contract sees of tables that are laid
+pub record LaidView : Type 0 where
+  pub cells : List ℕ
+  pub tables : List Table
+  pub ranges : ℕ
+  pub cells_room : ℕ
+  pub ranges_room : ℕ
+  pub tables_room : ℕ
+
 -- the rows that a range of cells has
 abbrev pub rows_in : List ℕ → ℕ → Range → List (List ℕ)
 rows_in cells stride range = map (λ c. take stride (drop (range.first + c * stride) cells)) (range_with_len 0 range.count)
 
 -- the table of a number; past the last an empty one
-abbrev pub table_at : TablesView → ℕ → Table
-table_at v t = slice_index_or v.tables t (record { stride = 0; rows = [] })
+abbrev pub table_at : List Table → ℕ → Table
+table_at ts t = slice_index_or ts t (record { stride = 0; rows = [] })

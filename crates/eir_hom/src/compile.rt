@@ -5,19 +5,19 @@ ghost use Rattle.eir_term.specs.Order.{KeepsFixed};
 ghost use Rattle.eir_term.specs.Plans as plans;
 ghost use Rattle.eir_hom.specs.Groups.{AllUnder};
 ghost use Rattle.eir_hom.specs.Levels.{bindings_of, levels_of};
-ghost use Rattle.eir_hom.specs.Compiling.{AreDrafts, ArePlaces, AreReadyDrafts, bindings_from, draft_level, first_set, marked, shapes_by, slot_in};
+ghost use Rattle.eir_hom.specs.Compiling.{ArePlaces, AreReadyDrafts, bindings_from, draft_level, drafts_of, first_set, marked, shapes_by, slot_in};
 ghost use Rattle.eir_hom.specs.FactRows.{Within};
-ghost use Rattle.eir_hom.specs.Stocks.{are_fits};
 
 use crate::Guard;
 use crate::fits::Fits;
 use crate::matching::Matcher;
 use crate::starts::images_of;
 use crate::stock::{Shape, Stock};
-use crate::tables::{Tables, push_row};
+use crate::tables::push_row;
 use eir_inst::Instance;
 use eir_term::{Map, Memory};
 use std::alloc::Global;
+use std::rc::Rc;
 
 /// A level before it is pushed: its shape and its table.
 #[derive(Clone, Copy, Debug, PartialEq, Eq)]
@@ -27,61 +27,58 @@ pub(crate) struct Draft {
 }
 
 /// The matcher for the homomorphisms from `a` to `b` that agree with the start, where the facts of `a` are placed in
-/// this order. The guard is asked once for each pair of profiles. It takes time linear in the two instances and, for
-/// each distinct table, in its relation's facts and the values of `b`; profiles and tables that are there already are
-/// looked for one by one.
+/// this order. It takes time linear in the two instances; the rows of a level are laid when the search first comes to it.
 pub(crate) fn compile(
     alloc: Global,
     guard: &Guard,
-    a: &Instance,
-    b: &Instance,
+    a: &Rc<Instance>,
+    b: &Rc<Instance>,
     start: &Map,
     plan: &[usize],
 ) -> Result<Matcher, Memory>
-    requires plan { plan.now ≡ plans.plan a.now.facts b.now.facts start.now }
+    requires plan { plan.now ≡ plans.plan a.now.value.facts b.now.value.facts start.now }
     requires fixed { KeepsFixed start.now }
-    ensures levels { IfOk result (λ m. m.levels ≡ levels_of a.now.facts b.now.facts start.now) }
-    ensures start { IfOk result (λ m. m.start ≡ bindings_of a.now.facts b.now.facts start.now) }
+    ensures levels { IfOk result (λ m. m.levels ≡ levels_of a.now.value.facts b.now.value.facts start.now) }
+    ensures start { IfOk result (λ m. m.start ≡ bindings_of a.now.value.facts b.now.value.facts start.now) }
     ensures placed { IfOk result (λ m. m.placed ≡ []) }
 {
     let images = images_of(alloc, a, b, start)?;
-    let fits = Fits::new(alloc, guard, a.profiles(), b.profiles())?;
-    let (tables, drafts) = draft_all(alloc, a, b, &fits, &images, plan)?;
-    let mut matcher = Matcher::new(alloc, tables, a.values().len() + 1)?;
+    let fits = Fits::new(alloc, guard, a, b)?;
+    let (shapes, drafts) = draft_all(alloc, a, &images, plan)?;
+    let stock = Stock::new(alloc, a, b, fits, shapes)?;
+    let mut matcher = Matcher::new(alloc, stock, a.values().len() + 1)?;
     bind_start(&mut matcher, &images)?;
     push_levels(alloc, &mut matcher, a, &drafts)?;
     Ok(matcher)
 }
 
-/// A draft of each level, and the tables.
+/// The shape of each level, and a draft of it with a table of its own.
 fn draft_all(
     alloc: Global,
     a: &Instance,
-    b: &Instance,
-    fits: &Fits,
     images: &[Option<usize>],
     plan: &[usize],
-) -> Result<(Tables, Vec<Draft>), Memory>
-    requires fits { fits.now ≡ are_fits a.now.facts b.now.facts }
+) -> Result<(Vec<Shape>, Vec<Draft>), Memory>
     requires images { length images.now ≡ length (values a.now.facts) }
     requires plan { ArePlaces a.now.facts plan.now }
-    ensures { IfOk result (λ r. AreDrafts a.now.facts b.now.facts r.0.tables r.1.items
-        (shapes_by a.now.facts (map is_some images.now) plan.now)) }
+    ensures shapes { IfOk result (λ r. r.0.items ≡ shapes_by a.now.facts (map is_some images.now) plan.now) }
+    ensures drafts { IfOk result (λ r. r.1.items ≡ drafts_of 0 r.0.items) }
 {
     let mut known = known_of(alloc, images)?;
-    let mut stock = Stock::new(alloc);
-    let mut drafts = Vec::new(alloc);
+    let mut shapes = Vec::with_capacity(alloc, plan.len())?;
+    let mut drafts = Vec::with_capacity(alloc, plan.len())?;
     for place in plan {
         let numbers = a.numbers_at(*place);
         let shape = Shape {
             place: *place,
             column: first_known(&known, numbers),
         };
-        let table = stock.table_for(a, b, fits, shape)?;
+        let table = shapes.len();
+        shapes.push(shape)?;
         drafts.push(Draft { shape, table })?;
         mark(&mut known, numbers);
     }
-    Ok((stock.into_tables(), drafts))
+    Ok((shapes, drafts))
 }
 
 /// Which values have an image.
@@ -141,9 +138,9 @@ fn push_levels(
     requires placed { matcher.old.placed ≡ [] }
     requires levels { matcher.old.levels ≡ [] }
     requires slots { length (values a.now.facts) < matcher.old.slots }
-    requires drafts { AreReadyDrafts a.now.facts matcher.old.tables.tables (map (λ p. p.0) matcher.old.start) drafts.now }
+    requires drafts { AreReadyDrafts a.now.facts matcher.old.tables (map (λ p. p.0) matcher.old.start) drafts.now }
     ensures { OnOk result (matcher.new
-        ≡ record matcher.old { levels = map (draft_level a.now.facts matcher.old.tables.tables) drafts.now }) }
+        ≡ record matcher.old { levels = map (draft_level a.now.facts matcher.old.tables) drafts.now }) }
 {
     let mut slots = Vec::new(alloc);
     for draft in drafts {

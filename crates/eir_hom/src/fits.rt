@@ -1,151 +1,136 @@
 //! Which values may go to which.
-ghost use Rattle.std.specs.Prelude.{◌≡◌, ℕ, ◌<◌, ◌++◌, [], IfOk, IsTrue, OnOk, length, map, flat_map, slice_index, slice_index_or};
-ghost use Rattle.eir_term.specs.Lists.{◌∈◌};
+ghost use Rattle.std.specs.Prelude.{◌≡◌, ℕ, ◌<◌, [], IfOk, length, map, slice_index_or};
+ghost use Rattle.eir_term.specs.Instances.{values};
 ghost use Rattle.eir_term.specs.Profiles.{is_within};
-ghost use Rattle.eir_hom.specs.Fits.{AreAnswered, all_answers, fits_row};
+ghost use Rattle.eir_hom.specs.Fits.{AreFits, are_fits, fits_row};
 ghost use Rattle.eir_hom.specs.Groups.{AllUnder};
 
 use crate::Guard;
-use crate::kinds::Kinds;
-use eir_inst::Profile;
+use eir_inst::{Instance, Profile};
 use eir_term::Memory;
 use std::alloc::Global;
 use std::marker::Model;
 
-/// For each value of one instance and each of another whether the one may go to the other, by their profiles. The
-/// answer is kept for each pair of kinds.
+/// Who tells which values of one instance may go to which of another.
 #[derive(Drop)]
-pub(crate) struct Fits {
-    from: Vec<usize>,
-    to: Vec<usize>,
-    width: usize,
-    answers: Vec<bool>,
+pub(crate) enum Fits {
+    /// The profiles of the two values, when it is asked.
+    Profiles,
+    /// What a guard answered before.
+    Answered(Answers),
 }
 
-impl Model for Fits {
-    ghost use Rattle.std.specs.Prelude.{List, Bool};
-    ghost use Rattle.eir_hom.specs.Fits.{all_answers, AreAnswered};
+/// The answers of a guard: for each value of the one instance those for the values of the other, by number.
+#[derive(Drop)]
+pub(crate) struct Answers {
+    rows: Vec<Vec<bool>>,
+}
+
+impl Model for Answers {
+    ghost use Rattle.std.specs.Prelude.{List, Bool, map};
 
     ghost Value = { List (List Bool) };
 
-    ghost view = { λ f. all_answers f.width f.answers.items f.from.items f.to.items };
-
-    ghost invariant = { λ f. AreAnswered f.width f.answers.items f.from.items f.to.items };
+    ghost view = { λ a. map (λ r. r.items) a.rows.items };
 }
 
 impl Fits {
-    /// The answers of the guard for values with these profiles. It is asked once for each pair of kinds.
+    /// What this guard says of the values of the two instances. A guard of a caller's is asked here, for each pair of
+    /// profiles, and never later.
     pub(crate) fn new(
+        alloc: Global,
+        guard: &Guard,
+        a: &Instance,
+        b: &Instance,
+    ) -> Result<Fits, Memory>
+        ensures { IfOk result (AreFits a.now.facts b.now.facts) }
+    {
+        if guard.is_standard() {
+            return Ok(Fits::Profiles);
+        }
+        let answers = Answers::ask(alloc, guard, a.profiles(), b.profiles())?;
+        Ok(Fits::Answered(answers))
+    }
+
+    /// Whether each value of the one row may go to the one at its column of the other.
+    pub(crate) fn pass(&self, a: &Instance, b: &Instance, from: &[usize], to: &[usize]) -> bool
+        requires fits { AreFits a.now.facts b.now.facts self.now }
+        requires from { AllUnder (length (values a.now.facts)) from.now }
+        requires to { AllUnder (length (values b.now.facts)) to.now }
+        ensures { result ≡ fits_row (are_fits a.now.facts b.now.facts) from.now to.now }
+    {
+        if from.len() != to.len() {
+            return false;
+        }
+        match self {
+            Fits::Profiles => are_within(a.profiles(), b.profiles(), from, to),
+            Fits::Answered(answers) => answers.are_yes(from, to),
+        }
+    }
+}
+
+impl Answers {
+    /// The answers of the guard for values with these profiles.
+    fn ask(
         alloc: Global,
         guard: &Guard,
         from: &[Profile],
         to: &[Profile],
-    ) -> Result<Fits, Memory>
-        ensures { IfOk result (λ f. f ≡ map (λ p. map (is_within p) to.now) from.now) }
+    ) -> Result<Answers, Memory>
+        ensures { IfOk result (λ a. a ≡ map (λ p. map (is_within p) to.now) from.now) }
     {
-        let kinds = Kinds::new(alloc, from)?;
-        let others = Kinds::new(alloc, to)?;
-        let answers = ask(alloc, guard, from, &kinds.firsts, to, &others.firsts)?;
-        Ok(Fits {
-            from: kinds.of,
-            to: others.of,
-            width: others.firsts.len(),
-            answers,
-        })
+        let mut rows = Vec::new(alloc);
+        for profile in from {
+            let row = ask_one(alloc, guard, profile, to)?;
+            rows.push(row)?;
+        }
+        Ok(Answers { rows })
     }
 
-    /// Whether each value of the one row may go to the one at its column of the other, which is as long.
-    pub(crate) fn passes(&self, from: &[usize], to: &[usize]) -> bool
-        requires { (n m : ℕ) → n ∈ from.now → m ∈ to.now → m < length (slice_index_or self.now n []) }
+    /// Whether each answer for the one row and the other is yes.
+    fn are_yes(&self, from: &[usize], to: &[usize]) -> bool
+        requires same { length from.now ≡ length to.now }
+        requires from { AllUnder (length self.now) from.now }
+        requires to { (k : ℕ) → k < length self.now → AllUnder (length (slice_index_or self.now k [])) to.now }
         ensures { result ≡ fits_row self.now from.now to.now }
     {
-        from.len() == to.len() && are_yes(&self.answers, self.width, &self.from, &self.to, from, to)
-    }
-
-    /// Whether the two rows have values of the same kinds, which may go to the same values.
-    pub(crate) fn are_alike(&self, row: &[usize], other: &[usize]) -> bool
-        requires row { AllUnder (length self.now) row.now }
-        requires other { AllUnder (length self.now) other.now }
-        ensures { IsTrue result
-            → map (λ n. slice_index_or self.now n []) row.now ≡ map (λ n. slice_index_or self.now n []) other.now }
-    {
-        row.len() == other.len() && are_same_kinds(&self.from, row, other)
-    }
-}
-
-/// Whether each of the row's answers is yes.
-fn are_yes(
-    answers: &[bool],
-    width: usize,
-    kinds: &[usize],
-    others: &[usize],
-    from: &[usize],
-    to: &[usize],
-) -> bool
-    requires length { length from.now ≡ length to.now }
-    requires answers { AreAnswered width answers.now kinds.now others.now }
-    requires from { AllUnder (length kinds.now) from.now }
-    requires to { AllUnder (length others.now) to.now }
-    ensures { result ≡ fits_row (all_answers width answers.now kinds.now others.now) from.now to.now }
-{
-    for i in 0..from.len() {
-        if !answers[kinds[from[i]] * width + others[to[i]]] {
-            return false;
+        for i in 0..from.len() {
+            if !self.rows[from[i]][to[i]] {
+                return false;
+            }
         }
+        true
     }
-    true
 }
 
-/// Whether the kinds are the same, column by column.
-fn are_same_kinds(kinds: &[usize], row: &[usize], other: &[usize]) -> bool
-    requires length { length row.now ≡ length other.now }
-    requires row { AllUnder (length kinds.now) row.now }
-    requires other { AllUnder (length kinds.now) other.now }
-    ensures { IsTrue result → map (slice_index kinds.now) row.now ≡ map (slice_index kinds.now) other.now }
-{
-    for i in 0..row.len() {
-        if kinds[row[i]] != kinds[other[i]] {
-            return false;
-        }
-    }
-    true
-}
-
-/// The answers of the guard for the profiles of these values, value by value of the first.
-fn ask(
-    alloc: Global,
-    guard: &Guard,
-    from: &[Profile],
-    firsts: &[usize],
-    to: &[Profile],
-    others: &[usize],
-) -> Result<Vec<bool>, Memory>
-    requires firsts { AllUnder (length from.now) firsts.now }
-    requires others { AllUnder (length to.now) others.now }
-    ensures { IfOk result (λ v. v.items
-        ≡ flat_map (λ i. map (λ j. is_within (slice_index_or from.now i []) (slice_index_or to.now j [])) others.now) firsts.now) }
-{
-    let mut answers = Vec::new(alloc);
-    for first in firsts {
-        ask_one(&mut answers, guard, &from[*first], to, others)?;
-    }
-    Ok(answers)
-}
-
-/// Appends the answers of the guard for one profile and those of these values.
+/// The answers of the guard for one profile and each of these.
 fn ask_one(
-    answers: &mut Vec<bool>,
+    alloc: Global,
     guard: &Guard,
     profile: &Profile,
     to: &[Profile],
-    others: &[usize],
-) -> Result<(), Memory>
-    requires { AllUnder (length to.now) others.now }
-    ensures { OnOk result (answers.new.items
-        ≡ answers.old.items ++ map (λ j. is_within profile.now (slice_index_or to.now j [])) others.now) }
+) -> Result<Vec<bool>, Memory>
+    ensures { IfOk result (λ r. r.items ≡ map (is_within profile.now) to.now) }
 {
-    for other in others {
-        answers.push(guard.passes(profile, &to[*other]))?;
+    let mut row = Vec::with_capacity(alloc, to.len())?;
+    for other in to {
+        row.push(guard.passes(profile, other))?;
     }
-    Ok(())
+    Ok(row)
+}
+
+/// Whether the profile of each value of the one row is within that of the other's value at its column. It stops at the
+/// first that is not.
+fn are_within(profiles: &[Profile], others: &[Profile], from: &[usize], to: &[usize]) -> bool
+    requires same { length from.now ≡ length to.now }
+    requires from { AllUnder (length profiles.now) from.now }
+    requires to { AllUnder (length others.now) to.now }
+    ensures { result ≡ fits_row (map (λ p. map (is_within p) others.now) profiles.now) from.now to.now }
+{
+    for i in 0..from.len() {
+        if !profiles[from[i]].within(&others[to[i]]) {
+            return false;
+        }
+    }
+    true
 }

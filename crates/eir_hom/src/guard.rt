@@ -48,6 +48,11 @@ impl Guard {
         }
     }
 
+    /// Whether it is the guard that asks [`Profile::within`].
+    pub(crate) fn is_standard(&self) -> bool {
+        matches!(self.kind, Kind::Standard)
+    }
+
     /// Whether the one profile is within the other, as the guard answers it.
     pub(crate) fn passes(&self, from: &Profile, to: &Profile) -> bool
         ensures { result ≡ is_within from.now to.now }

@@ -10,8 +10,9 @@
 //! [`Planner`] and a [`Guard`] are a caller's own answers for the weight of a fact and for profiles.
 //!
 //! A search goes through numbers alone: a value of `a` is a slot, a value of `b` is the number that a slot is bound to,
-//! and the facts that a fact may go to are rows of numbers, laid out when the listing begins. A try costs a load and a
-//! comparison; no turn takes memory, hashes or looks through anything.
+//! and the facts that a fact may go to are rows of numbers. The rows of a fact are laid when the search first comes to
+//! it, in memory that the listing took when it began. A try costs a load and a comparison; no turn takes memory or
+//! hashes, and none looks through anything but to lay rows for the first time.
 //!
 //! # What a contract sees
 //!
@@ -20,7 +21,7 @@
 //! are `homs` and `need` of `eir_term`'s `specs/Search`; what `homs` has and lacks, and in which order, is told by the
 //! laws of `eir_term`'s `proofs/SearchLaws`. A turn takes a homomorphism off where it answers `Found`.
 //!
-//! Below that a `Matcher` is seen as a `Match` of `specs/Matching`, the problem in numbers, and `Tables` as their rows.
+//! Below that a `Matcher` is seen as a `Match` of `specs/Matching`, the problem in numbers, and a `Stock` as the tables of its rows.
 //! `specs/Levels` says which numbers stand for which facts; the laws of `proofs/NumberLaws` lead from these to the facts.
 //!
 //! # How a caller loops
@@ -39,7 +40,6 @@ mod given;
 mod groups;
 mod guard;
 mod homs;
-mod kinds;
 mod matching;
 mod occurrences;
 mod plan;

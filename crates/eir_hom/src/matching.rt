@@ -9,7 +9,8 @@ ghost use Rattle.eir_hom.specs.Columns.{is_among, bound_slots, unmarked, AreBelo
 
 use crate::columns::{Column, mark_new};
 use crate::rows::scan_rows;
-use crate::tables::{Range, Tables};
+use crate::stock::Stock;
+use crate::tables::Range;
 use eir_search::Problem;
 use eir_term::Memory;
 use std::alloc::Global;
@@ -32,7 +33,7 @@ struct CompiledLevel {
 /// nobody reads it until it is written anew; so no try takes memory, hashes or looks through anything but its row.
 #[derive(Drop)]
 pub(crate) struct Matcher {
-    tables: Tables,
+    stock: Stock,
     levels: Vec<CompiledLevel>,
     columns: Vec<Column>,
     ranges: Vec<Range>,
@@ -53,24 +54,24 @@ impl Model for Matcher {
 
     ghost view = { λ p. record {
       slots = length p.images.items;
-      tables = p.tables;
-      levels = levels_in p.tables p.columns.items p.levels.items;
+      tables = p.stock.tables;
+      levels = levels_in p.stock p.columns.items p.levels.items;
       start = start_in p.given.items p.images.items;
       placed = take p.depth p.placed.items;
     } };
 
-    ghost invariant = { λ p. IsMatcher p.tables p.columns.items p.levels.items p.given.items p.images.items
+    ghost invariant = { λ p. IsMatcher p.stock p.columns.items p.levels.items p.given.items p.images.items
         p.is_bound.items p.ranges.items p.placed.items p.depth };
 }
 
 impl Matcher {
     /// A matcher of so many slots that has no level and binds nothing.
-    pub(crate) fn new(alloc: Global, tables: Tables, slots: usize) -> Result<Matcher, Memory>
+    pub(crate) fn new(alloc: Global, stock: Stock, slots: usize) -> Result<Matcher, Memory>
         ensures { IfOk result
-            (λ m. m ≡ record { slots = slots; tables = tables; levels = []; start = []; placed = [] }) }
+            (λ m. m ≡ record { slots = slots; tables = stock.tables; levels = []; start = []; placed = [] }) }
     {
         Ok(Matcher {
-            tables,
+            stock,
             levels: Vec::new(alloc),
             columns: Vec::new(alloc),
             ranges: Vec::new(alloc),
@@ -108,7 +109,7 @@ impl Matcher {
         requires placed { self.old.placed ≡ [] }
         requires key { is_among key (bound_slots (map (λ p. p.0) self.old.start) self.old.levels) ≡ true }
         requires slots { AreBelow slots.now self.old.slots }
-        requires table { table < length self.old.tables.tables }
+        requires table { table < length self.old.tables }
         requires stride { (table_at self.old.tables table).stride ≡ length slots.now }
         ensures ok { OnOk result (self.new ≡ record self.old {
           levels = self.old.levels ++
@@ -128,7 +129,7 @@ impl Matcher {
         append_level(&mut self.levels, &mut self.ranges, &mut self.placed, level)?;
         mark_new(&mut self.columns[first_column..], &mut self.is_bound);
         set_range(
-            &self.tables,
+            &mut self.stock,
             &self.levels,
             &self.images,
             &mut self.ranges,
@@ -145,7 +146,7 @@ impl Matcher {
     {
         self.images[slot] = number;
         set_range(
-            &self.tables,
+            &mut self.stock,
             &self.levels,
             &self.images,
             &mut self.ranges,
@@ -199,7 +200,7 @@ impl Problem for Matcher {
         let columns = &self.columns[first_column..first_column + stride];
         let found = scan_rows(
             columns,
-            self.tables.cells(),
+            self.stock.cells(),
             first,
             from,
             to,
@@ -209,7 +210,7 @@ impl Problem for Matcher {
             self.placed[level] = found;
             self.depth = level + 1;
             set_range(
-                &self.tables,
+                &mut self.stock,
                 &self.levels,
                 &self.images,
                 &mut self.ranges,
@@ -258,9 +259,10 @@ fn append_level(
     Ok(())
 }
 
-/// Sets the range of a level to where its rows stand for the number of its key slot; nothing past the last level.
+/// Sets the range of a level to where its rows stand for the number of its key slot, and lays them where that was not
+/// done yet; nothing past the last level.
 fn set_range(
-    tables: &Tables,
+    stock: &mut Stock,
     levels: &[CompiledLevel],
     images: &[usize],
     ranges: &mut [Range],
@@ -268,15 +270,17 @@ fn set_range(
 )
     requires room { length levels.now ≤ length ranges.old }
     requires parts { (l : CompiledLevel) → slice_get levels.now level ≡ Some l
-        → (l.table < length tables.now.tables) × (l.key < length images.now) }
+        → (l.table < length stock.old.tables) × (l.key < length images.now) }
+    ensures tables { stock.new.tables ≡ stock.old.tables }
+    ensures cells { take (length stock.old.cells) stock.new.cells ≡ stock.old.cells }
     ensures length { length ranges.new ≡ length ranges.old }
     ensures others { (k : ℕ) → k ≢ level → slice_get ranges.new k ≡ slice_get ranges.old k }
     ensures range { (l : CompiledLevel) (r : Range) → slice_get levels.now level ≡ Some l
         → slice_get ranges.new level ≡ Some r
-        → IsRangeFor tables.now l (get_or images.now l.key 0) r }
+        → IsRangeFor stock.new l (get_or images.now l.key 0) r }
 {
     if level < levels.len() {
         let CompiledLevel { key, table, .. } = levels[level];
-        ranges[level] = tables.range(table, images[key]);
+        ranges[level] = stock.range(table, images[key]);
     }
 }

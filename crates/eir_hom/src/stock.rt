@@ -1,17 +1,19 @@
-//! The tables that a search needs, each made once.
-ghost use Rattle.std.specs.Prelude.{◌≡◌, ◌<◌, [], IfOk, IfSome, IsTrue, OnOk, length, map, take, slice_index_or};
-ghost use Rattle.eir_term.specs.Instances.{values};
+//! The tables that a search needs, each laid when it is first asked for.
+ghost use Rattle.std.specs.Prelude.{◌≡◌, ℕ, ◌+◌, ◌*◌, ◌<◌, ◌≤◌, ◌++◌, ◌∷◌, [], IfOk, IsOk, OnOk, length, map, take, slice_index_or, vec_capacity};
 ghost use Rattle.eir_hom.specs.Levels.{but_at};
-ghost use Rattle.eir_hom.specs.Stocks.{AreAlike, AreShapes, HaveSameRows, IsShape, IsStock, are_fits, key_at, key_count, key_in, may_be_at, no_table, rel_of, shape_table};
-ghost use Rattle.eir_hom.specs.FactRows.{Within};
+ghost use Rattle.eir_hom.specs.FactRows.{Within, numbers_at};
+ghost use Rattle.eir_hom.specs.Fits.{AreFits, are_fits};
+ghost use Rattle.eir_hom.specs.Tables.{rows_in, table_at};
+ghost use Rattle.eir_hom.specs.Stocks.{AreShapes, HasRoom, IsShape, IsStocked, cells_for, cells_needed, key_at, key_count, key_in, may_be_at, ranges_needed, rel_of, shape_table};
 
 use crate::fits::Fits;
 use crate::groups::Groups;
-use crate::tables::Tables;
+use crate::tables::{Range, Tables};
 use eir_inst::Instance;
 use eir_term::Memory;
 use std::alloc::Global;
-use std::mem;
+use std::marker::Model;
+use std::rc::Rc;
 
 /// A fact of the source, by its place, and the column by which the facts that it may go to are found.
 #[derive(Clone, Copy, Debug, PartialEq, Eq)]
@@ -20,71 +22,205 @@ pub(crate) struct Shape {
     pub(crate) column: Option<usize>,
 }
 
-/// Tables, and for each the shape that it was made for. Facts of one relation whose values have the same profiles,
-/// column by column, share a table.
+/// A table for each shape: the rows of the facts that the fact of the shape may go to, under the numbers at its column.
+/// A table is laid when it is first asked for, in memory that was taken when the stock was made.
 #[derive(Drop)]
 pub(crate) struct Stock {
-    pub(crate) tables: Tables,
-    pub(crate) made: Vec<Shape>,
-    groups: Groups,
-    places: Vec<usize>,
-    keys: Vec<usize>,
-    alloc: Global,
+    source: Rc<Instance>,
+    target: Rc<Instance>,
+    fits: Fits,
+    shapes: Vec<Shape>,
+    tables: Tables,
+    bench: Bench,
+}
+
+/// What laying a table works in: the places of the facts that go into it, their keys, and the places by key.
+#[derive(Drop)]
+pub(crate) struct Bench {
+    pub(crate) places: Vec<usize>,
+    pub(crate) keys: Vec<usize>,
+    pub(crate) groups: Groups,
+}
+
+impl Model for Stock {
+    ghost use Rattle.eir_hom.specs.Tables.{TablesView};
+
+    ghost Value = { TablesView };
+
+    ghost use Rattle.std.specs.Prelude.{map};
+    ghost use Rattle.eir_hom.specs.Stocks.{IsStocked, shape_table};
+
+    ghost view = { λ s. record {
+      cells = s.tables.cells;
+      tables = map (shape_table s.source.value.facts s.target.value.facts) s.shapes.items;
+    } };
+
+    ghost invariant = { λ s. IsStocked s.source.value.facts s.target.value.facts s.fits s.shapes.items s.tables s.bench };
 }
 
 impl Stock {
-    /// No table.
-    pub(crate) fn new(alloc: Global) -> Stock
-        ensures tables { result.tables ≡ record { cells = []; tables = [] } }
-        ensures made { result.made.items ≡ [] }
+    /// The tables of these shapes, none of which is laid, with the memory for all of them.
+    pub(crate) fn new(
+        alloc: Global,
+        a: &Rc<Instance>,
+        b: &Rc<Instance>,
+        fits: Fits,
+        shapes: Vec<Shape>,
+    ) -> Result<Stock, Memory>
+        requires fits { AreFits a.now.value.facts b.now.value.facts fits }
+        requires shapes { AreShapes a.now.value.facts shapes.items }
+        ensures { IfOk result
+            (λ s. s ≡ record { cells = []; tables = map (shape_table a.now.value.facts b.now.value.facts) shapes.items }) }
     {
-        Stock {
-            tables: Tables::new(alloc),
-            made: Vec::new(alloc),
-            groups: Groups::new(alloc),
-            places: Vec::new(alloc),
-            keys: Vec::new(alloc),
-            alloc,
-        }
+        let cells = count_cells(a, b, &shapes)?;
+        let ranges = count_ranges(b, &shapes)?;
+        Ok(Stock {
+            source: a.clone()?,
+            target: b.clone()?,
+            fits,
+            tables: Tables::with_room(alloc, cells, ranges, shapes.len())?,
+            shapes,
+            bench: Bench::new(alloc, b)?,
+        })
     }
 
-    /// The table of a shape, which is made where none of those that are there is the same.
-    pub(crate) fn table_for(
-        &mut self,
-        a: &Instance,
-        b: &Instance,
-        fits: &Fits,
-        shape: Shape,
-    ) -> Result<usize, Memory>
-        requires fits { fits.now ≡ are_fits a.now.facts b.now.facts }
-        requires shape { IsShape a.now.facts shape }
-        requires stock { IsStock a.now.facts b.now.facts self.old.tables.tables self.old.made.items }
-        ensures stock { OnOk result (IsStock a.now.facts b.now.facts self.new.tables.tables self.new.made.items) }
-        ensures kept { OnOk result (take (length self.old.tables.tables) self.new.tables.tables ≡ self.old.tables.tables) }
-        ensures below { IfOk result (λ t. t < length self.new.tables.tables) }
-        ensures table { IfOk result (λ t. slice_index_or self.new.tables.tables t no_table
-            ≡ shape_table a.now.facts b.now.facts shape) }
+    /// Where the rows of a table under a key stand; the empty range for a key that the table has not. It lays the table
+    /// and those before it, where they are not laid yet, behind the cells that are there, and takes no memory.
+    pub(crate) fn range(&mut self, table: usize, key: usize) -> Range
+        requires { table < length self.old.tables }
+        ensures tables { self.new.tables ≡ self.old.tables }
+        ensures cells { take (length self.old.cells) self.new.cells ≡ self.old.cells }
+        ensures rows { rows_in self.new.cells (table_at self.old.tables table).stride result
+            ≡ slice_index_or (table_at self.old.tables table).rows key [] }
+        ensures within { result.first + result.count * (table_at self.old.tables table).stride ≤ length self.new.cells }
     {
-        if let Some(table) = find(a, fits, &self.made, shape) {
-            return Ok(table);
+        if table >= self.tables.len() {
+            lay_to(
+                &self.source,
+                &self.target,
+                &self.fits,
+                &self.shapes,
+                &mut self.tables,
+                &mut self.bench,
+                table,
+            );
         }
-        gather(&mut self.places, &mut self.keys, a, b, fits, shape)?;
-        self.groups
-            .fill(&self.keys, &self.places, keys_for(shape.column, b))?;
+        self.tables.range(table, key)
+    }
+
+    /// The cells that the rows stand in, lent.
+    pub(crate) fn cells(&self) -> &[usize]
+        ensures { result.now ≡ self.now.cells }
+    {
+        self.tables.cells()
+    }
+}
+
+impl Bench {
+    /// A bench for tables with the facts of this instance.
+    fn new(alloc: Global, b: &Instance) -> Result<Bench, Memory>
+        ensures { IfOk result (HasRoom b.now.facts) }
+    {
+        Ok(Bench {
+            places: Vec::with_capacity(alloc, b.len())?,
+            keys: Vec::with_capacity(alloc, b.len())?,
+            groups: Groups::with_room(alloc, b.values().len() + 1, b.len())?,
+        })
+    }
+}
+
+/// How many cells the tables of these shapes have at most: as many rows as the target has facts.
+fn count_cells(a: &Instance, b: &Instance, shapes: &[Shape]) -> Result<usize, Memory>
+    requires { AreShapes a.now.facts shapes.now }
+    ensures { IfOk result (λ n. n ≡ cells_needed a.now.facts b.now.facts shapes.now) }
+{
+    let mut count = 0;
+    for shape in shapes {
         let stride = stride_of(shape.column, a.numbers_at(shape.place));
-        let tables = mem::replace(&mut self.tables, Tables::new(self.alloc));
-        self.tables = tables.with_table(stride, shape.column, b, &self.groups)?;
-        let table = self.made.len();
-        self.made.push(shape)?;
-        Ok(table)
+        count = add_times(count, b.len(), stride)?;
     }
+    Ok(count)
+}
 
-    /// The tables.
-    pub(crate) fn into_tables(self) -> Tables
-        ensures { result ≡ self.tables }
-    {
-        self.tables
+/// How many ranges the tables of these shapes have.
+fn count_ranges(b: &Instance, shapes: &[Shape]) -> Result<usize, Memory>
+    ensures { IfOk result (λ n. n ≡ ranges_needed b.now.facts shapes.now) }
+{
+    let mut count = 0;
+    for shape in shapes {
+        count = add_times(count, 1, keys_for(shape.column, b))?;
     }
+    Ok(count)
+}
+
+/// A number and a product together; no memory has so many places where that is no number of a machine word.
+fn add_times(count: usize, times: usize, each: usize) -> Result<usize, Memory>
+    ensures { IfOk result (λ n. n ≡ count + times * each) }
+{
+    let Some(product) = times.checked_mul(each) else {
+        return Err(Memory);
+    };
+    match count.checked_add(product) {
+        Some(sum) => Ok(sum),
+        None => Err(Memory),
+    }
+}
+
+/// Lays the tables up to that of a shape, the first of those that are missing first.
+fn lay_to(
+    a: &Instance,
+    b: &Instance,
+    fits: &Fits,
+    shapes: &[Shape],
+    tables: &mut Tables,
+    bench: &mut Bench,
+    last: usize,
+)
+    requires missing { length tables.old.tables ≤ last }
+    requires last { last < length shapes.now }
+    requires stocked { IsStocked a.now.facts b.now.facts fits.now shapes.now tables.old bench.old }
+    ensures stocked { IsStocked a.now.facts b.now.facts fits.now shapes.now tables.new bench.new }
+    ensures cells { take (length tables.old.cells) tables.new.cells ≡ tables.old.cells }
+    ensures laid { last < length tables.new.tables }
+{
+    for next in tables.len()..last + 1 {
+        lay(a, b, fits, shapes[next], tables, bench);
+    }
+}
+
+/// Lays the table of a shape behind the others.
+fn lay(
+    a: &Instance,
+    b: &Instance,
+    fits: &Fits,
+    shape: Shape,
+    tables: &mut Tables,
+    bench: &mut Bench,
+)
+    requires fits { AreFits a.now.facts b.now.facts fits.now }
+    requires shape { IsShape a.now.facts shape }
+    requires room { HasRoom b.now.facts bench.old }
+    requires cells_room { length tables.old.cells + cells_for a.now.facts b.now.facts shape ≤ tables.old.cells_room }
+    requires ranges_room { tables.old.ranges + key_count b.now.facts shape.column ≤ tables.old.ranges_room }
+    requires tables_room { length tables.old.tables < tables.old.tables_room }
+    ensures tables { tables.new.tables ≡ tables.old.tables ++ shape_table a.now.facts b.now.facts shape ∷ [] }
+    ensures cells { take (length tables.old.cells) tables.new.cells ≡ tables.old.cells }
+    ensures cells_count { length tables.new.cells ≤ length tables.old.cells + cells_for a.now.facts b.now.facts shape }
+    ensures ranges { tables.new.ranges ≡ tables.old.ranges + key_count b.now.facts shape.column }
+    ensures cells_kept { tables.old.cells_room ≤ tables.new.cells_room }
+    ensures ranges_kept { tables.old.ranges_room ≤ tables.new.ranges_room }
+    ensures tables_kept { tables.old.tables_room ≤ tables.new.tables_room }
+    ensures room { HasRoom b.now.facts bench.new }
+{
+    let Ok(()) = gather(&mut bench.places, &mut bench.keys, a, b, fits, shape) else {
+        unreachable!()
+    };
+    let count = keys_for(shape.column, b);
+    let Ok(()) = bench.groups.fill(&bench.keys, &bench.places, count) else {
+        unreachable!()
+    };
+    let stride = stride_of(shape.column, a.numbers_at(shape.place));
+    tables.add(stride, shape.column, b, &bench.groups);
 }
 
 /// The length of a row but for the column.
@@ -98,32 +234,6 @@ fn stride_of(column: Option<usize>, numbers: &[usize]) -> usize
     }
 }
 
-/// The first table that was made for a shape with the same rows.
-fn find(a: &Instance, fits: &Fits, made: &[Shape], shape: Shape) -> Option<usize>
-    requires shape { IsShape a.now.facts shape }
-    requires made { AreShapes a.now.facts made.now }
-    requires fits { length fits.now ≡ length (values a.now.facts) }
-    ensures { IfSome result (λ t. (t < length made.now) × AreAlike a.now.facts fits.now (slice_index_or made.now t shape) shape) }
-{
-    for table in 0..made.len() {
-        let other = made[table];
-        if other.column == shape.column && is_alike(a, fits, other.place, shape.place) {
-            return Some(table);
-        }
-    }
-    None
-}
-
-/// Whether the facts at the two places have one relation, and values of the same kinds.
-fn is_alike(a: &Instance, fits: &Fits, place: usize, other: usize) -> bool
-    requires place { place < length a.now.facts }
-    requires other { other < length a.now.facts }
-    requires fits { length fits.now ≡ length (values a.now.facts) }
-    ensures { IsTrue result → HaveSameRows a.now.facts fits.now place other }
-{
-    rel_at(a, place) == rel_at(a, other) && fits.are_alike(a.numbers_at(place), a.numbers_at(other))
-}
-
 /// The relation of the fact at a place.
 fn rel_at(a: &Instance, place: usize) -> u32
     requires { place < length a.now.facts }
@@ -132,7 +242,8 @@ fn rel_at(a: &Instance, place: usize) -> u32
     a.as_slice()[place].rel
 }
 
-/// The places of the facts that the fact of the shape may go to, and the numbers that they have at its column.
+/// The places of the facts that the fact of the shape may go to, and the numbers that they have at its column. It fails
+/// only where room is missing.
 fn gather(
     places: &mut Vec<usize>,
     keys: &mut Vec<usize>,
@@ -141,17 +252,20 @@ fn gather(
     fits: &Fits,
     shape: Shape,
 ) -> Result<(), Memory>
-    requires fits { fits.now ≡ are_fits a.now.facts b.now.facts }
+    requires fits { AreFits a.now.facts b.now.facts fits.now }
     requires shape { IsShape a.now.facts shape }
-    ensures places { OnOk result (places.new.items ≡ may_be_at a.now.facts b.now.facts fits.now shape) }
+    ensures places { OnOk result (places.new.items ≡ may_be_at a.now.facts b.now.facts (are_fits a.now.facts b.now.facts) shape) }
     ensures keys { OnOk result (keys.new.items ≡ map (key_at b.now.facts shape.column) places.new.items) }
+    ensures places_room { vec_capacity places.old ≤ vec_capacity places.new }
+    ensures keys_room { vec_capacity keys.old ≤ vec_capacity keys.new }
+    ensures room { length b.now.facts ≤ vec_capacity places.old → length b.now.facts ≤ vec_capacity keys.old → IsOk result }
 {
     places.clear();
     keys.clear();
     let row = a.numbers_at(shape.place);
     for place in b.places_of(rel_at(a, shape.place)) {
         let numbers = b.numbers_at(*place);
-        if fits.passes(row, numbers) {
+        if fits.pass(a, b, row, numbers) {
             places.push(*place)?;
             keys.push(key_of(shape.column, numbers))?;
         }
@@ -160,7 +274,7 @@ fn gather(
 }
 
 /// The number at the column, or 0 where no column is named.
-pub(crate) fn key_of(column: Option<usize>, numbers: &[usize]) -> usize
+fn key_of(column: Option<usize>, numbers: &[usize]) -> usize
     requires { Within column numbers.now }
     ensures { result ≡ key_in column numbers.now }
 {

@@ -1,5 +1,5 @@
 //! Rows of numbers in flat memory.
-ghost use Rattle.std.specs.Prelude.{◌≡◌, ℕ, ◌+◌, ◌*◌, ◌<◌, ◌≤◌, List, [], ◌∷◌, ◌++◌, IfOk, OnOk, length, map, flat_map, slice_index_or};
+ghost use Rattle.std.specs.Prelude.{◌≡◌, ℕ, ◌+◌, ◌*◌, ◌<◌, ◌≤◌, List, [], ◌∷◌, ◌++◌, IfOk, IsOk, OnOk, length, map, flat_map, slice_index_or, vec_capacity};
 ghost use Rattle.eir_term.specs.Lists.{◌∈◌};
 ghost use Rattle.eir_hom.specs.Levels.{but_at};
 ghost use Rattle.eir_hom.specs.FactRows.{HaveRows, IsPlace, Within, row_at};
@@ -36,68 +36,97 @@ pub(crate) struct Tables {
 }
 
 impl Model for Tables {
-    ghost use Rattle.eir_hom.specs.Tables.{TablesView};
+    ghost use Rattle.eir_hom.specs.Tables.{LaidView};
 
-    ghost Value = { TablesView };
+    ghost Value = { LaidView };
 
-    ghost use Rattle.std.specs.Prelude.{map};
+    ghost use Rattle.std.specs.Prelude.{length, map, vec_capacity};
     ghost use Rattle.eir_hom.specs.Layouts.{AreLaid, table_of};
 
-    ghost view = { λ t. record { cells = t.cells.items; tables = map (table_of t.cells.items t.ranges.items) t.layouts.items } };
+    ghost view = { λ t. record {
+      cells = t.cells.items;
+      tables = map (table_of t.cells.items t.ranges.items) t.layouts.items;
+      ranges = length t.ranges.items;
+      cells_room = vec_capacity t.cells;
+      ranges_room = vec_capacity t.ranges;
+      tables_room = vec_capacity t.layouts;
+    } };
 
     ghost invariant = { λ t. AreLaid t.cells.items t.ranges.items t.layouts.items };
 }
 
 impl Tables {
-    /// No table.
-    pub(crate) fn new(alloc: Global) -> Tables
-        ensures { result ≡ record { cells = []; tables = [] } }
+    /// No table, with room for so many tables, with so many cells and ranges together.
+    pub(crate) fn with_room(
+        alloc: Global,
+        cells: usize,
+        ranges: usize,
+        tables: usize,
+    ) -> Result<Tables, Memory>
+        ensures { IfOk result (λ t. t ≡ record {
+          cells = [];
+          tables = [];
+          ranges = 0;
+          cells_room = cells;
+          ranges_room = ranges;
+          tables_room = tables;
+        }) }
     {
-        Tables {
-            cells: Vec::new(alloc),
-            ranges: Vec::new(alloc),
-            layouts: Vec::new(alloc),
-        }
+        Ok(Tables {
+            cells: Vec::with_capacity(alloc, cells)?,
+            ranges: Vec::with_capacity(alloc, ranges)?,
+            layouts: Vec::with_capacity(alloc, tables)?,
+        })
     }
 
-    /// These tables and behind them one more: its keys are the groups, and under each stand the rows of the facts at
-    /// the group's places, which leave out the column.
-    pub(crate) fn with_table(
-        self,
+    /// The number of tables.
+    pub(crate) fn len(&self) -> usize
+        ensures { result ≡ length self.now.tables }
+    {
+        self.layouts.len()
+    }
+
+    /// Adds a table behind these, for which there is room: its keys are the groups, and under each stand the rows of the
+    /// facts at the group's places, which leave out the column.
+    pub(crate) fn add(
+        &mut self,
         stride: usize,
         column: Option<usize>,
         b: &Instance,
         groups: &Groups,
-    ) -> Result<Tables, Memory>
-        requires { HaveRows b.now.facts column stride groups.now }
-        ensures { IfOk result (λ t. t.tables ≡ self.tables
-            ++ record { stride = stride; rows = map (map (row_at b.now.facts column)) groups.now } ∷ []) }
+    )
+        requires rows { HaveRows b.now.facts column stride groups.now.groups }
+        requires cells_room { length self.old.cells + length (flat_map (flat_map (row_at b.now.facts column)) groups.now.groups)
+            ≤ self.old.cells_room }
+        requires ranges_room { self.old.ranges + length groups.now.groups ≤ self.old.ranges_room }
+        requires tables_room { length self.old.tables < self.old.tables_room }
+        ensures tables { self.new.tables ≡ self.old.tables
+            ++ record { stride = stride; rows = map (map (row_at b.now.facts column)) groups.now.groups } ∷ [] }
+        ensures cells { self.new.cells ≡ self.old.cells ++ flat_map (flat_map (row_at b.now.facts column)) groups.now.groups }
+        ensures ranges { self.new.ranges ≡ self.old.ranges + length groups.now.groups }
+        ensures cells_kept { self.old.cells_room ≤ self.new.cells_room }
+        ensures ranges_kept { self.old.ranges_room ≤ self.new.ranges_room }
+        ensures tables_kept { self.old.tables_room ≤ self.new.tables_room }
     {
-        let Tables {
-            mut cells,
-            mut ranges,
-            mut layouts,
-        } = self;
-        let first = ranges.len();
-        lay(&mut cells, &mut ranges, column, b, groups)?;
-        layouts.push(Layout {
-            first,
+        let layout = Layout {
+            first: self.ranges.len(),
             keys: groups.len(),
             stride,
-        })?;
-        Ok(Tables {
-            cells,
-            ranges,
-            layouts,
-        })
+        };
+        let Ok(()) = lay(&mut self.cells, &mut self.ranges, column, b, groups) else {
+            unreachable!()
+        };
+        let Ok(()) = self.layouts.push(layout) else {
+            unreachable!()
+        };
     }
 
     /// Where the rows of a key stand; the empty range for a key that the table has not.
     pub(crate) fn range(&self, table: usize, key: usize) -> Range
         requires { table < length self.now.tables }
-        ensures rows { rows_in self.now.cells (table_at self.now table).stride result
-            ≡ slice_index_or (table_at self.now table).rows key [] }
-        ensures within { result.first + result.count * (table_at self.now table).stride ≤ length self.now.cells }
+        ensures rows { rows_in self.now.cells (table_at self.now.tables table).stride result
+            ≡ slice_index_or (table_at self.now.tables table).rows key [] }
+        ensures within { result.first + result.count * (table_at self.now.tables table).stride ≤ length self.now.cells }
     {
         let layout = self.layouts[table];
         if key < layout.keys {
@@ -113,17 +142,9 @@ impl Tables {
     {
         self.cells.as_slice()
     }
-
-    /// The length of a table's rows.
-    pub(crate) fn stride(&self, table: usize) -> usize
-        requires { table < length self.now.tables }
-        ensures { result ≡ (table_at self.now table).stride }
-    {
-        self.layouts[table].stride
-    }
 }
 
-/// Appends the rows of each group of places, and their ranges.
+/// Appends the rows of each group of places, and their ranges. It fails only where room is missing.
 fn lay(
     cells: &mut Vec<usize>,
     ranges: &mut Vec<Range>,
@@ -131,11 +152,15 @@ fn lay(
     b: &Instance,
     groups: &Groups,
 ) -> Result<(), Memory>
-    requires { (ps : List ℕ) → ps ∈ groups.now → (p : ℕ) → p ∈ ps → IsPlace b.now.facts column p }
+    requires { (ps : List ℕ) → ps ∈ groups.now.groups → (p : ℕ) → p ∈ ps → IsPlace b.now.facts column p }
     ensures cells { OnOk result (cells.new.items
-        ≡ cells.old.items ++ flat_map (flat_map (row_at b.now.facts column)) groups.now) }
+        ≡ cells.old.items ++ flat_map (flat_map (row_at b.now.facts column)) groups.now.groups) }
     ensures ranges { OnOk result (ranges.new.items
-        ≡ ranges.old.items ++ laid (row_at b.now.facts column) (length cells.old.items) groups.now) }
+        ≡ ranges.old.items ++ laid (row_at b.now.facts column) (length cells.old.items) groups.now.groups) }
+    ensures cells_room { vec_capacity cells.old ≤ vec_capacity cells.new }
+    ensures ranges_room { vec_capacity ranges.old ≤ vec_capacity ranges.new }
+    ensures room { length cells.old.items + length (flat_map (flat_map (row_at b.now.facts column)) groups.now.groups) ≤ vec_capacity cells.old
+        → length ranges.old.items + length groups.now.groups ≤ vec_capacity ranges.old → IsOk result }
 {
     for key in 0..groups.len() {
         let places = groups.group(key);
@@ -148,7 +173,7 @@ fn lay(
     Ok(())
 }
 
-/// Appends the rows of the facts at these places.
+/// Appends the rows of the facts at these places. It fails only where room is missing.
 fn push_rows(
     cells: &mut Vec<usize>,
     column: Option<usize>,
@@ -156,7 +181,9 @@ fn push_rows(
     places: &[usize],
 ) -> Result<(), Memory>
     requires { (p : ℕ) → p ∈ places.now → IsPlace b.now.facts column p }
-    ensures { OnOk result (cells.new.items ≡ cells.old.items ++ flat_map (row_at b.now.facts column) places.now) }
+    ensures cells { OnOk result (cells.new.items ≡ cells.old.items ++ flat_map (row_at b.now.facts column) places.now) }
+    ensures capacity { vec_capacity cells.old ≤ vec_capacity cells.new }
+    ensures room { length cells.old.items + length (flat_map (row_at b.now.facts column) places.now) ≤ vec_capacity cells.old → IsOk result }
 {
     for place in places {
         push_row(cells, column, b.numbers_at(*place))?;
@@ -164,14 +191,16 @@ fn push_rows(
     Ok(())
 }
 
-/// Appends the numbers but that of the column.
+/// Appends the numbers but that of the column. It fails only where room is missing.
 pub(crate) fn push_row(
     cells: &mut Vec<usize>,
     column: Option<usize>,
     numbers: &[usize],
 ) -> Result<(), Memory>
     requires { Within column numbers.now }
-    ensures { OnOk result (cells.new.items ≡ cells.old.items ++ but_at column numbers.now) }
+    ensures cells { OnOk result (cells.new.items ≡ cells.old.items ++ but_at column numbers.now) }
+    ensures capacity { vec_capacity cells.old ≤ vec_capacity cells.new }
+    ensures room { length cells.old.items + length (but_at column numbers.now) ≤ vec_capacity cells.old → IsOk result }
 {
     match column {
         None => cells.extend_from_slice(numbers)?,

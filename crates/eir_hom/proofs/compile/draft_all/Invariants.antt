@@ -4,4 +4,4 @@ use Rattle.eir_hom.proofs.compile.draft_all.Given as goal
 
 abbrev pub invariant-loop-place : goal.invariant-loop-place
 invariant-loop-place l =
-    AreDrafted l.a.facts l.b.facts l.stock.tables.tables l.stock.made.items l.drafts.items (shapes_by l.a.facts (map is_some l.images) l.plan) l.known.items l.place-index l.plan
+    AreDrafted l.a.facts l.shapes.items l.drafts.items (shapes_by l.a.facts (map is_some l.images) l.plan) l.known.items l.place-index l.plan

@@ -13,7 +13,7 @@ numbers_at-numbers-requires c =
     let ds = c.args.drafts.now in
     let i = c.loop-draft.draft-index in
     let d = get_or ds i no_draft in
-    let r = ready-at A c.args.matcher.now.tables.tables (map (λ p. p.0) c.args.matcher.now.start) ds i c.requires.drafts c.loop-draft-test.true in
+    let r = ready-at A c.args.matcher.now.tables (map (λ p. p.0) c.args.matcher.now.start) ds i c.requires.drafts c.loop-draft-test.true in
     r.shape.0
 
 pub push_row-requires : goal.push_row-requires
@@ -22,7 +22,7 @@ push_row-requires c =
     let ds = c.args.drafts.now in
     let i = c.loop-draft.draft-index in
     let d = get_or ds i no_draft in
-    let r = ready-at A c.args.matcher.now.tables.tables (map (λ p. p.0) c.args.matcher.now.start) ds i c.requires.drafts c.loop-draft-test.true in
+    let r = ready-at A c.args.matcher.now.tables (map (λ p. p.0) c.args.matcher.now.start) ds i c.requires.drafts c.loop-draft-test.true in
     let ns = numbers-read A d.shape.place c.numbers_at-numbers.result.now c.numbers_at-numbers.ensures in
     subst (Within d.shape.column) (sym ns) r.shape.1
 
@@ -32,7 +32,7 @@ key_slot-requires c =
     let ds = c.args.drafts.now in
     let i = c.loop-draft.draft-index in
     let d = get_or ds i no_draft in
-    let r = ready-at A c.args.matcher.now.tables.tables (map (λ p. p.0) c.args.matcher.now.start) ds i c.requires.drafts c.loop-draft-test.true in
+    let r = ready-at A c.args.matcher.now.tables (map (λ p. p.0) c.args.matcher.now.start) ds i c.requires.drafts c.loop-draft-test.true in
     let ns = numbers-read A d.shape.place c.numbers_at-numbers.result.now c.numbers_at-numbers.ensures in
     subst (Within d.shape.column) (sym ns) r.shape.1
 
@@ -42,7 +42,7 @@ push_level-requires-clause-key c =
     let ds = c.args.drafts.now in
     let i = c.loop-draft.draft-index in
     let d = get_or ds i no_draft in
-    let r = ready-at A c.args.matcher.now.tables.tables (map (λ p. p.0) c.args.matcher.now.start) ds i c.requires.drafts c.loop-draft-test.true in
+    let r = ready-at A c.args.matcher.now.tables (map (λ p. p.0) c.args.matcher.now.start) ds i c.requires.drafts c.loop-draft-test.true in
     let ns = numbers-read A d.shape.place c.numbers_at-numbers.result.now c.numbers_at-numbers.ensures in
     let key = c.key_slot.ensures ∙ ap (slot_in (length (values A)) d.shape.column) ns in
     rw (ap (λ (m : Match). m.start) c.loop-draft.invariant, ap (λ (m : Match). m.levels) c.loop-draft.invariant, key) r.key
@@ -53,9 +53,9 @@ push_level-requires-clause-slots c =
     let ds = c.args.drafts.now in
     let i = c.loop-draft.draft-index in
     let d = get_or ds i no_draft in
-    let r = ready-at A c.args.matcher.now.tables.tables (map (λ p. p.0) c.args.matcher.now.start) ds i c.requires.drafts c.loop-draft-test.true in
+    let r = ready-at A c.args.matcher.now.tables (map (λ p. p.0) c.args.matcher.now.start) ds i c.requires.drafts c.loop-draft-test.true in
     let ns = numbers-read A d.shape.place c.numbers_at-numbers.result.now c.numbers_at-numbers.ensures in
-    let row = c.deref.ensures.value ∙ row-read A d.shape.column d.shape.place c.numbers_at-numbers.result.now c.clear.new.self.items c.push_row.new.cells.items ns c.clear.ensures.items c.in_ok-push_row.ensures in
+    let row = c.deref.ensures.value ∙ row-read A d.shape.column d.shape.place c.numbers_at-numbers.result.now c.clear.new.self.items c.push_row.new.cells.items ns c.clear.ensures.items c.in_ok-push_row.ensures.cells in
     rw (row, ap (λ (m : Match). m.slots) c.loop-draft.invariant) (row-below A d.shape.column d.shape.place c.args.matcher.now.slots c.requires.slots)
 
 pub push_level-requires-clause-table : goal.push_level-requires-clause-table
@@ -64,7 +64,7 @@ push_level-requires-clause-table c =
     let ds = c.args.drafts.now in
     let i = c.loop-draft.draft-index in
     let d = get_or ds i no_draft in
-    let r = ready-at A c.args.matcher.now.tables.tables (map (λ p. p.0) c.args.matcher.now.start) ds i c.requires.drafts c.loop-draft-test.true in
+    let r = ready-at A c.args.matcher.now.tables (map (λ p. p.0) c.args.matcher.now.start) ds i c.requires.drafts c.loop-draft-test.true in
     rw (ap (λ (m : Match). m.tables) c.loop-draft.invariant) r.table
 
 pub push_level-requires-clause-stride : goal.push_level-requires-clause-stride
@@ -73,7 +73,7 @@ push_level-requires-clause-stride c =
     let ds = c.args.drafts.now in
     let i = c.loop-draft.draft-index in
     let d = get_or ds i no_draft in
-    let r = ready-at A c.args.matcher.now.tables.tables (map (λ p. p.0) c.args.matcher.now.start) ds i c.requires.drafts c.loop-draft-test.true in
+    let r = ready-at A c.args.matcher.now.tables (map (λ p. p.0) c.args.matcher.now.start) ds i c.requires.drafts c.loop-draft-test.true in
     let ns = numbers-read A d.shape.place c.numbers_at-numbers.result.now c.numbers_at-numbers.ensures in
-    let row = c.deref.ensures.value ∙ row-read A d.shape.column d.shape.place c.numbers_at-numbers.result.now c.clear.new.self.items c.push_row.new.cells.items ns c.clear.ensures.items c.in_ok-push_row.ensures in
+    let row = c.deref.ensures.value ∙ row-read A d.shape.column d.shape.place c.numbers_at-numbers.result.now c.clear.new.self.items c.push_row.new.cells.items ns c.clear.ensures.items c.in_ok-push_row.ensures.cells in
     rw (ap (λ (m : Match). m.tables) c.loop-draft.invariant, row) r.stride

@@ -5,6 +5,7 @@ use Rattle.std.proofs.lemmas.Result.{err_from_is_err_and}
 use Rattle.eir_hom.specs.Columns.{unmarked, slots_of, is_among, AreColumns}
 use Rattle.eir_hom.proofs.LevelLaws.{grown, appended-part, slots-unmarked, pushing, pushed, marked-length, marked-part}
 use Rattle.eir_hom.proofs.ScanLaws.{compiled-at}
+use Rattle.eir_hom.proofs.GrownLaws.{IsGrown, view-on, matcher-on}
 use Rattle.eir_hom.proofs.matching.Matcher.push_level.Goals as goal
 
 pub invariant_of-self : goal.invariant_of-self
@@ -55,10 +56,13 @@ invariant_of-self-2 c =
     let part = appended-part _ _ c.args.slots.now c.len-first_column.result (c.deref_mut.ensures.value ∙ columns) first in
     let slots = c.mark_new.ensures.slots ∙ ap slots_of part ∙ slots-unmarked c.args.slots.now in
     let flags : (seen : List ℕ) → ((s : ℕ) → get_or c.self.inside.is_bound.items s false ≡ is_among s seen) → AreColumns seen c.mark_new.new.columns = rw c.deref_mut-2.ensures.value at c.mark_new.ensures.columns in
-    let q = pushing _ _ c.mark_new.new.columns _ _ _ _ _ _ _ _ c.args.key c.args.table c.len-first_column.result c.args.slots.now c.self.view_is c.self.invariant c.requires.placed c.requires.key c.requires.slots c.requires.table c.requires.stride first slots flags in
+    let g : IsGrown c.self.inside.stock c.set_range.new.stock = record { tables = c.set_range.ensures.tables; cells = c.set_range.ensures.cells } in
+    let v = view-on _ _ g _ _ _ _ _ _ _ c.self.view_is in
+    let p = matcher-on _ _ g _ _ _ _ _ _ _ _ c.self.invariant in
+    let q = pushing _ _ c.mark_new.new.columns _ _ _ _ _ _ _ _ c.args.key c.args.table c.len-first_column.result c.args.slots.now v p c.requires.placed c.requires.key c.requires.slots c.requires.table c.requires.stride first slots flags in
     let levels : c.append_level.new.levels.items ≡ c.self.inside.levels.items ++ (record { key = c.args.key; table = c.args.table; first_column = c.len-first_column.result; stride = length c.args.slots.now }) ∷ [] = c.in_ok-append_level.ensures.ok in
     let bound = rw (part, slots-unmarked c.args.slots.now, c.deref_mut-2.ensures.value) at c.mark_new.ensures.bound in
-    let w = pushed _ _ c.mark_new.new.columns _ _ _ _ c.mark_new.new.is_bound _ c.set_range.new.ranges _ c.append_level.new.placed.items _ _ c.args.key c.args.table c.len-first_column.result c.args.slots.now c.self.view_is c.self.invariant q
+    let w = pushed _ _ c.mark_new.new.columns _ _ _ _ c.mark_new.new.is_bound _ c.set_range.new.ranges _ c.append_level.new.placed.items _ _ c.args.key c.args.table c.len-first_column.result c.args.slots.now v p q
     (c.mark_new.ensures.length ∙ ap length c.deref_mut-2.ensures.value) bound (omega (arith, c.in_ok-append_level.ensures.ranges_room, c.set_range.ensures.length, ap length c.deref_mut-3.ensures.value)) c.in_ok-append_level.ensures.placed_room
     (λ l r a b. rw c.deref-2.ensures.value at (c.set_range.ensures.range l r (ap (λ x. slice_get x 0) (c.deref.ensures.value ∙ levels) ∙ a) b)) in
     let all = with_items_is c.append_columns.new.columns
@@ -76,10 +80,13 @@ returns-clause-ok c =
     let part = appended-part _ _ c.args.slots.now c.len-first_column.result (c.deref_mut.ensures.value ∙ columns) first in
     let slots = c.mark_new.ensures.slots ∙ ap slots_of part ∙ slots-unmarked c.args.slots.now in
     let flags : (seen : List ℕ) → ((s : ℕ) → get_or c.self.inside.is_bound.items s false ≡ is_among s seen) → AreColumns seen c.mark_new.new.columns = rw c.deref_mut-2.ensures.value at c.mark_new.ensures.columns in
-    let q = pushing _ _ c.mark_new.new.columns _ _ _ _ _ _ _ _ c.args.key c.args.table c.len-first_column.result c.args.slots.now c.self.view_is c.self.invariant c.requires.placed c.requires.key c.requires.slots c.requires.table c.requires.stride first slots flags in
+    let g : IsGrown c.self.inside.stock c.set_range.new.stock = record { tables = c.set_range.ensures.tables; cells = c.set_range.ensures.cells } in
+    let v = view-on _ _ g _ _ _ _ _ _ _ c.self.view_is in
+    let p = matcher-on _ _ g _ _ _ _ _ _ _ _ c.self.invariant in
+    let q = pushing _ _ c.mark_new.new.columns _ _ _ _ _ _ _ _ c.args.key c.args.table c.len-first_column.result c.args.slots.now v p c.requires.placed c.requires.key c.requires.slots c.requires.table c.requires.stride first slots flags in
     let levels : c.append_level.new.levels.items ≡ c.self.inside.levels.items ++ (record { key = c.args.key; table = c.args.table; first_column = c.len-first_column.result; stride = length c.args.slots.now }) ∷ [] = c.in_ok-append_level.ensures.ok in
     let bound = rw (part, slots-unmarked c.args.slots.now, c.deref_mut-2.ensures.value) at c.mark_new.ensures.bound in
-    let w = pushed _ _ c.mark_new.new.columns _ _ _ _ c.mark_new.new.is_bound _ c.set_range.new.ranges _ c.append_level.new.placed.items _ _ c.args.key c.args.table c.len-first_column.result c.args.slots.now c.self.view_is c.self.invariant q
+    let w = pushed _ _ c.mark_new.new.columns _ _ _ _ c.mark_new.new.is_bound _ c.set_range.new.ranges _ c.append_level.new.placed.items _ _ c.args.key c.args.table c.len-first_column.result c.args.slots.now v p q
     (c.mark_new.ensures.length ∙ ap length c.deref_mut-2.ensures.value) bound (omega (arith, c.in_ok-append_level.ensures.ranges_room, c.set_range.ensures.length, ap length c.deref_mut-3.ensures.value)) c.in_ok-append_level.ensures.placed_room
     (λ l r a b. rw c.deref-2.ensures.value at (c.set_range.ensures.range l r (ap (λ x. slice_get x 0) (c.deref.ensures.value ∙ levels) ∙ a) b)) in
     let all = with_items_is c.append_columns.new.columns

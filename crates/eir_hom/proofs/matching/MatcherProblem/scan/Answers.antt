@@ -3,6 +3,7 @@ use Rattle.std.proofs.lemmas.List.{with_items_is}
 use Rattle.eir_hom.specs.Matching.{matched}
 use Rattle.eir_hom.proofs.MatcherLaws.{stayed}
 use Rattle.eir_hom.proofs.ScanLaws.{stage, fit, compiled-at, space-kept, base-kept, part-is, scan-now, went-now}
+use Rattle.eir_hom.proofs.GrownLaws.{IsGrown, view-on, matcher-on, gone-on}
 use Rattle.eir_hom.proofs.matching.MatcherProblem.scan.Goals as goal
 
 pub overflow_add-columns : goal.overflow_add-columns
@@ -58,7 +59,9 @@ invariant_of-self c =
     let images = with_items_is c.self.inside.images c.scan_rows-found.new.images (c.scan_rows-found.ensures.length ∙ c.deref_mut.ensures.len) in
     let q = scan-now _ _ _ _ _ _ _ _ _ _ _ _ _ _ _ _ _ _ _ c.self.invariant s c.deref.ensures.value c.cells.ensures c.deref_mut.ensures.value c.scan_rows-found.ensures.to c.scan_rows-found.ensures.scanned in
     let ranges = with_items_is c.self.inside.ranges c.set_range.new.ranges (c.set_range.ensures.length ∙ c.deref_mut-then-found-to.ensures.len) in
-    let w = went-now _ _ _ _ _ _ _ _ _ _ _ _ _ _ _ c.set_range.new.ranges c.self.invariant s (q.good c.if-found-to.true) long (c.set_range.ensures.length ∙ ap length c.deref_mut-then-found-to.ensures.value)
+    let g : IsGrown c.self.inside.stock c.set_range.new.stock = record { tables = c.set_range.ensures.tables; cells = c.set_range.ensures.cells } in
+    let p = matcher-on _ _ g _ _ _ _ _ _ _ _ c.self.invariant in
+    let w = went-now _ _ _ _ _ _ _ _ _ _ _ _ _ _ _ c.set_range.new.ranges p s (gone-on _ _ g _ _ _ _ _ _ _ _ (q.good c.if-found-to.true)) long (c.set_range.ensures.length ∙ ap length c.deref_mut-then-found-to.ensures.value)
     (λ j ne. c.set_range.ensures.others j ne ∙ ap (λ x. slice_get x j) c.deref_mut-then-found-to.ensures.value)
     (λ l' r' a b. rw (c.deref-then-found-to-2.ensures.value, images) at (c.set_range.ensures.range l' r' (ap (λ x. slice_get x (c.args.level + 1)) c.deref-then-found-to.ensures.value ∙ a) b)) in
     rw (images, ranges) w.1
@@ -80,10 +83,12 @@ returns-then-found-to-clause-space c =
     let images = with_items_is c.self.inside.images c.scan_rows-found.new.images (c.scan_rows-found.ensures.length ∙ c.deref_mut.ensures.len) in
     let q = scan-now _ _ _ _ _ _ _ _ _ _ _ _ _ _ _ _ _ _ _ c.self.invariant s c.deref.ensures.value c.cells.ensures c.deref_mut.ensures.value c.scan_rows-found.ensures.to c.scan_rows-found.ensures.scanned in
     let ranges = with_items_is c.self.inside.ranges c.set_range.new.ranges (c.set_range.ensures.length ∙ c.deref_mut-then-found-to.ensures.len) in
-    let w = went-now _ _ _ _ _ _ _ _ _ _ _ _ _ _ _ c.set_range.new.ranges c.self.invariant s (q.good c.if-found-to.true) long (c.set_range.ensures.length ∙ ap length c.deref_mut-then-found-to.ensures.value)
+    let g : IsGrown c.self.inside.stock c.set_range.new.stock = record { tables = c.set_range.ensures.tables; cells = c.set_range.ensures.cells } in
+    let p = matcher-on _ _ g _ _ _ _ _ _ _ _ c.self.invariant in
+    let w = went-now _ _ _ _ _ _ _ _ _ _ _ _ _ _ _ c.set_range.new.ranges p s (gone-on _ _ g _ _ _ _ _ _ _ _ (q.good c.if-found-to.true)) long (c.set_range.ensures.length ∙ ap length c.deref_mut-then-found-to.ensures.value)
     (λ j ne. c.set_range.ensures.others j ne ∙ ap (λ x. slice_get x j) c.deref_mut-then-found-to.ensures.value)
     (λ l' r' a b. rw (c.deref-then-found-to-2.ensures.value, images) at (c.set_range.ensures.range l' r' (ap (λ x. slice_get x (c.args.level + 1)) c.deref-then-found-to.ensures.value ∙ a) b)) in
-    rw images (space-kept _ _ _ _ _ _ _ _ _ c.self.view_is w.0)
+    rw images (space-kept c.set_range.new.stock _ _ _ _ _ _ _ _ (view-on _ _ g _ _ _ _ _ _ _ c.self.view_is) w.0)
 
 pub returns-then-found-to-clause-base : goal.returns-then-found-to-clause-base
 returns-then-found-to-clause-base c =
@@ -92,10 +97,12 @@ returns-then-found-to-clause-base c =
     let images = with_items_is c.self.inside.images c.scan_rows-found.new.images (c.scan_rows-found.ensures.length ∙ c.deref_mut.ensures.len) in
     let q = scan-now _ _ _ _ _ _ _ _ _ _ _ _ _ _ _ _ _ _ _ c.self.invariant s c.deref.ensures.value c.cells.ensures c.deref_mut.ensures.value c.scan_rows-found.ensures.to c.scan_rows-found.ensures.scanned in
     let ranges = with_items_is c.self.inside.ranges c.set_range.new.ranges (c.set_range.ensures.length ∙ c.deref_mut-then-found-to.ensures.len) in
-    let w = went-now _ _ _ _ _ _ _ _ _ _ _ _ _ _ _ c.set_range.new.ranges c.self.invariant s (q.good c.if-found-to.true) long (c.set_range.ensures.length ∙ ap length c.deref_mut-then-found-to.ensures.value)
+    let g : IsGrown c.self.inside.stock c.set_range.new.stock = record { tables = c.set_range.ensures.tables; cells = c.set_range.ensures.cells } in
+    let p = matcher-on _ _ g _ _ _ _ _ _ _ _ c.self.invariant in
+    let w = went-now _ _ _ _ _ _ _ _ _ _ _ _ _ _ _ c.set_range.new.ranges p s (gone-on _ _ g _ _ _ _ _ _ _ _ (q.good c.if-found-to.true)) long (c.set_range.ensures.length ∙ ap length c.deref_mut-then-found-to.ensures.value)
     (λ j ne. c.set_range.ensures.others j ne ∙ ap (λ x. slice_get x j) c.deref_mut-then-found-to.ensures.value)
     (λ l' r' a b. rw (c.deref-then-found-to-2.ensures.value, images) at (c.set_range.ensures.range l' r' (ap (λ x. slice_get x (c.args.level + 1)) c.deref-then-found-to.ensures.value ∙ a) b)) in
-    rw images (base-kept _ _ _ _ _ _ _ _ _ c.self.view_is long w.0)
+    rw images (base-kept c.set_range.new.stock _ _ _ _ _ _ _ _ (view-on _ _ g _ _ _ _ _ _ _ c.self.view_is) long w.0)
 
 pub returns-then-found-to-clause-bad : goal.returns-then-found-to-clause-bad
 returns-then-found-to-clause-bad c =
@@ -111,7 +118,7 @@ returns-else-found-to-clause-space c =
     let q = scan-now _ _ _ _ _ _ _ _ _ _ _ _ _ _ _ _ _ _ _ c.self.invariant s c.deref.ensures.value c.cells.ensures c.deref_mut.ensures.value c.scan_rows-found.ensures.to c.scan_rows-found.ensures.scanned in
     let none : c.scan_rows-found.result ≡ c.args.to = omega (arith, c.scan_rows-found.ensures.to, c.if-found-to.false) in
     let w = stayed _ _ _ _ _ _ _ _ _ _ long c.self.invariant (q.none none) in
-    rw images (space-kept _ _ _ _ _ _ _ _ _ c.self.view_is w.0)
+    rw images (space-kept c.self.inside.stock _ _ _ _ _ _ _ _ c.self.view_is w.0)
 
 pub returns-else-found-to-clause-base : goal.returns-else-found-to-clause-base
 returns-else-found-to-clause-base c =
@@ -121,7 +128,7 @@ returns-else-found-to-clause-base c =
     let q = scan-now _ _ _ _ _ _ _ _ _ _ _ _ _ _ _ _ _ _ _ c.self.invariant s c.deref.ensures.value c.cells.ensures c.deref_mut.ensures.value c.scan_rows-found.ensures.to c.scan_rows-found.ensures.scanned in
     let none : c.scan_rows-found.result ≡ c.args.to = omega (arith, c.scan_rows-found.ensures.to, c.if-found-to.false) in
     let w = stayed _ _ _ _ _ _ _ _ _ _ long c.self.invariant (q.none none) in
-    rw images (base-kept _ _ _ _ _ _ _ _ _ c.self.view_is long w.0)
+    rw images (base-kept c.self.inside.stock _ _ _ _ _ _ _ _ c.self.view_is long w.0)
 
 pub returns-else-found-to-clause-bad : goal.returns-else-found-to-clause-bad
 returns-else-found-to-clause-bad c =
