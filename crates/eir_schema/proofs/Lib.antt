@@ -1,5 +1,6 @@
 pub mod ColumnLaws
 pub mod NameLaws
+pub mod NumberLaws
 pub mod PlaceLaws
 pub mod SchemaLaws
 pub mod SideLaws

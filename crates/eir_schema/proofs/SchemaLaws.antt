@@ -1,5 +1,5 @@
 -- Laws of schemas: what a look-up finds, and when one relation more may be declared.
-use Rattle.std.proofs.Common.{◌≡◌, ◌≤◌, ◌<◌, ◌+◌, ℕ, suc, Bool, true, false, ◌||◌, cond, List, [], ◌∷◌, ◌++◌, length, Option, Some, None, is_some, refl, sym, ◌∙◌, ap, subst, inl, inr, arith}
+use Rattle.std.proofs.Common.{◌≡◌, ◌≤◌, ◌<◌, ◌+◌, ℕ, Bool, true, false, ◌||◌, cond, List, [], ◌∷◌, ◌++◌, length, Option, Some, None, is_some, option_map, refl, sym, ◌∙◌, ap, subst, inl, inr, arith}
 use Rattle.std.specs.Prelude.{nat_lt, nat_le}
 use Rattle.std.specs.List.{list_any}
 use Rattle.std.specs.Str.{bytes_eq}
@@ -13,7 +13,7 @@ use Rattle.eir_term.specs.Lists.{IsDistinct}
 use Rattle.eir_term.proofs.ListLaws.{∈-append_cases, ∈-list_any, IsDistinct-push}
 use Rattle.eir_schema.specs.declared.refused.DeclareRefused.{DeclareRefused}
 use Rattle.eir_schema.specs.declared.refused.DeclareRefused.TheVariants.{Taken, Full, Memory}
-use Rattle.eir_schema.specs.Schemas.{Relation, IsSchema, is_of, relations_of, relation_names, found_from, find_relation}
+use Rattle.eir_schema.specs.Schemas.{Relation, IsSchema, is_of, relations_of, relation_names, relation_info, relation_named, find_relation}
 use Rattle.eir_schema.specs.Declarations.{has_repeat, refusal, told}
 use Rattle.eir_schema.proofs.ColumnLaws.{IsDistinct-from_no_repeat}
 use Rattle.eir_schema.proofs.SideLaws.{same_side-true, length-relations_of, relations_of-own, relations_of-other}
@@ -21,9 +21,16 @@ use Rattle.eir_schema.proofs.SideLaws.{same_side-true, length-relations_of, rela
 -- ---- look-ups
 
 -- a name is found exactly where it is one of the names
-pub is_some-found_from : (n : ℕ) (s : List Relation) (name : List ℕ) → is_some (found_from n s name) ≡ list_any (bytes_eq name) (relation_names s)
-is_some-found_from n [] name = refl
-is_some-found_from n (r ∷ rs) name = elim (cases_Bool (bytes_eq name r.name)) [ inl t ↦ rw t refl | inr t ↦ rw t (is_some-found_from (suc n) rs name) ]
+pub is_some-find_relation : (s : List Relation) (name : List ℕ) → is_some (find_relation s name) ≡ list_any (bytes_eq name) (relation_names s)
+is_some-find_relation s name = some-info (relation_named s name) ∙ is_some-named s
+  where
+    some-info : (found : Option Relation) → is_some (option_map (relation_info s) found) ≡ is_some found
+    some-info None = refl
+    some-info (Some r) = refl
+
+    is_some-named : (rs : List Relation) → is_some (relation_named rs name) ≡ list_any (bytes_eq name) (relation_names rs)
+    is_some-named [] = refl
+    is_some-named (r ∷ rs) = elim (cases_Bool (bytes_eq name r.name)) [ inl t ↦ rw t refl | inr t ↦ rw t (is_some-named rs) ]
 
 -- there are at most 128 relations
 pub length-within : (s : List Relation) → IsSchema s → length s ≤ 128
@@ -53,7 +60,7 @@ IsAdmitted-from_none s d none =
     let full = first_none (nat_le 64 (length (relations_of d.side s))) (Full 64) None wide.1 in
     let p = or_parts (is_some (find_relation s d.name)) (has_repeat d.columns) taken.0 in
     record {
-      new = sym (is_some-found_from 0 s d.name) ∙ p.0;
+      new = sym (is_some-find_relation s d.name) ∙ p.0;
       apart = IsDistinct-from_no_repeat d.columns p.1;
       narrow = ltb-false 16 (length d.columns) wide.0;
       room = leb-false 64 (length (relations_of d.side s)) full.0;

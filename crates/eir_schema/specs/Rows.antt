@@ -34,8 +34,18 @@ second_column = refl
 no_third_column : column_at (employees ∷ works ∷ []) 1 2 ≡ None
 no_third_column = refl
 
-second_declared : number_at (employees ∷ works ∷ []) 1 ≡ Some 1
+-- a number rests on the declarations of its own side alone
+second_declared : number_at (works ∷ unary ∷ employees ∷ []) 1 ≡ Some 3
 second_declared = refl
+
+source_declared_last : find_relation (works ∷ unary ∷ employees ∷ []) (codes "Emp") ≡ Some (record { number = 0; side = Source; arity = 2 })
+source_declared_last = refl
+
+second_of_target : name_at (works ∷ employees ∷ unary ∷ []) 3 ≡ Some (codes "R")
+second_of_target = refl
+
+no_second_of_source : name_at (works ∷ employees ∷ unary ∷ []) 2 ≡ None
+no_second_of_source = refl
 
 -- of an empty schema, and where the target was declared first
 empty_stamp : stamp [] ≡ codes ";"

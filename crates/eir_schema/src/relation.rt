@@ -1,6 +1,5 @@
 //! One declared relation.
-ghost use Rattle.std.specs.Prelude.{◌≡◌, ◌<◌, ◌^◌, ℕ, length, IfOk, option_copied, slice_get};
-ghost use Rattle.eir_schema.specs.Schemas.{relation_info};
+ghost use Rattle.std.specs.Prelude.{◌≡◌, ◌<◌, ◌^◌, length, IfOk, option_copied, slice_get};
 
 use eir_term::{Memory, Side, Text};
 use std::alloc::Global;
@@ -9,67 +8,85 @@ use std::marker::Model;
 /// What is told of a relation that was found by its name.
 #[derive(Clone, Copy, Debug, PartialEq, Eq)]
 pub struct RelInfo {
-    /// Its place in the order of declaration, among both sides, from 0.
+    /// Twice its place, from 0, among the declarations of its side, and one more on the target side. So it is at most 127.
     pub number: u32,
     pub side: Side,
     /// The number of its columns.
     pub arity: u32,
 }
 
-/// A relation as it was declared.
+/// A relation as it was declared, with its number.
 #[derive(Drop)]
 pub struct Declaration {
+    number: u32,
     side: Side,
     name: Text,
     columns: Vec<Text>,
 }
 
 impl Model for Declaration {
-    ghost use Rattle.eir_schema.specs.Schemas.{Relation};
+    ghost use Rattle.eir_schema.specs.Tables.{Numbered};
 
-    ghost Value = { Relation };
+    ghost Value = { Numbered };
 
-    ghost view = { λ d. record { side = d.side; name = d.name; columns = d.columns.items } };
+    ghost view = { λ d. record {
+      number = d.number;
+      relation = record { side = d.side; name = d.name; columns = d.columns.items };
+    } };
 }
 
 impl Declaration {
-    /// The relation of this side, name and columns, which are copied.
+    /// The relation of this number, side, name and columns. Name and columns are copied.
     pub fn make(
         alloc: Global,
+        number: u32,
         side: Side,
         name: &Text,
         columns: &[Text],
     ) -> Result<Declaration, Memory>
-        ensures { IfOk result (λ d. d ≡ record { side = side; name = name.now; columns = columns.now }) }
+        ensures number { IfOk result (λ d. d.number ≡ number) }
+        ensures relation { IfOk result (λ d. d.relation ≡ record { side = side; name = name.now; columns = columns.now }) }
     {
         Ok(Declaration {
+            number,
             side,
             name: Text::make(alloc, name.bytes())?,
             columns: copies(alloc, columns)?,
         })
     }
 
+    /// The number.
+    pub fn number(&self) -> u32
+        ensures { result ≡ self.now.number }
+    {
+        self.number
+    }
+
     /// The name.
     pub fn name(&self) -> &Text
-        ensures { result.now ≡ self.now.name }
+        ensures { result.now ≡ self.now.relation.name }
     {
         &self.name
     }
 
     /// The name of the column at a place, from 0.
     pub fn column(&self, place: u32) -> Option<&Text>
-        ensures { option_copied result ≡ slice_get self.now.columns place }
+        ensures { option_copied result ≡ slice_get self.now.relation.columns place }
     {
         self.columns.get(place as usize)
     }
 
-    /// What is told of it under this number.
-    pub fn info(&self, number: u32) -> RelInfo
-        requires { length self.now.columns < 2 ^ 32 }
-        ensures { result ≡ relation_info number self.now }
+    /// What is told of it.
+    pub fn info(&self) -> RelInfo
+        requires { length self.now.relation.columns < 2 ^ 32 }
+        ensures { result ≡ record {
+          number = self.now.number;
+          side = self.now.relation.side;
+          arity = length self.now.relation.columns;
+        } }
     {
         RelInfo {
-            number,
+            number: self.number,
             side: self.side,
             arity: self.columns.len() as u32,
         }

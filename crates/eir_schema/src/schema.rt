@@ -1,8 +1,8 @@
 //! The declared relations.
 ghost use Rattle.std.specs.Prelude.{◌≡◌, ◌≤◌, ◌++◌, ◌∷◌, ◌↔◌, [], None, IsTrue, IfOk, IfErr, OnErr};
-ghost use Rattle.std.specs.Prelude.{length, option_copied, slice_get};
+ghost use Rattle.std.specs.Prelude.{length, option_copied, option_map};
 ghost use Rattle.eir_schema.specs.Schemas.{Relation, IsSchema, find_relation, name_at, column_at, number_at};
-ghost use Rattle.eir_schema.specs.Schemas.{relations_of};
+ghost use Rattle.eir_schema.specs.Schemas.{next_number, relation_at, relations_of};
 ghost use Rattle.eir_schema.specs.Declarations.{refusal, told};
 ghost use Rattle.eir_schema.specs.Stamps.{stamp};
 
@@ -20,7 +20,7 @@ use std::marker::Model;
 const COLUMN_LIMIT: usize = 16;
 
 /// The most relations of a side.
-const RELATION_LIMIT: u32 = 64;
+const RELATION_LIMIT: usize = 64;
 
 /// The relations of the source and of the target, in the order in which they were declared (textbook).
 #[derive(Drop)]
@@ -54,7 +54,8 @@ impl Schema {
         }
     }
 
-    /// Declares a relation of a side, behind the others, and gives its number.
+    /// Declares a relation of a side, behind the others, and gives its number: twice the number of relations that the
+    /// side had, and one more on the target side.
     pub fn declare(
         &mut self,
         side: Side,
@@ -63,7 +64,7 @@ impl Schema {
     ) -> Result<u32, DeclareRefused>
         requires { 1 ≤ length columns.now }
         ensures ok { let d : Relation = record { side = side; name = name.now; columns = columns.now } in
-            IfOk result (λ n. (refusal self.old d ≡ None) × (n ≡ length self.old) × (self.new ≡ self.old ++ d ∷ [])) }
+            IfOk result (λ n. (refusal self.old d ≡ None) × (n ≡ next_number side self.old) × (self.new ≡ self.old ++ d ∷ [])) }
         ensures refused { let d : Relation = record { side = side; name = name.now; columns = columns.now } in
             IfErr result (λ e. told e ≡ refusal self.old d) }
         ensures err { OnErr result (self.new ≡ self.old) }
@@ -98,24 +99,37 @@ impl Schema {
         requires admitted { let d : Relation = record { side = side; name = name.now; columns = columns.now } in
             refusal self.old d ≡ None }
         ensures ok { let d : Relation = record { side = side; name = name.now; columns = columns.now } in
-            IfOk result (λ n. (n ≡ length self.old) × (self.new ≡ self.old ++ d ∷ [])) }
+            IfOk result (λ n. (n ≡ next_number side self.old) × (self.new ≡ self.old ++ d ∷ [])) }
         ensures err { OnErr result (self.new ≡ self.old) }
     {
-        let number = self.len();
+        let number = self.next_number(side);
+        let place = self.len();
         let key = name.bytes().to_vec(self.alloc)?;
-        let declaration = Declaration::make(self.alloc, side, name, columns)?;
+        let declaration = Declaration::make(self.alloc, number, side, name, columns)?;
         self.declarations.reserve(1)?;
         self.summary
-            .add(self.alloc, side, name, columns.len() as u32)?;
+            .add(self.alloc, side, name, columns.len() as u32, place)?;
         self.declarations.insert(key, declaration).unwrap();
         Ok(number)
     }
 
     /// The number of relations of a side.
-    fn count(&self, side: Side) -> u32
-        ensures { result ≡ length (relations_of side self.now) }
+    fn count(&self, side: Side) -> usize
+        ensures exact { result ≡ length (relations_of side self.now) }
+        ensures few { result ≤ 64 }
     {
         self.summary.count(side)
+    }
+
+    /// The number of the relation that is declared on a side next.
+    fn next_number(&self, side: Side) -> u32
+        ensures { result ≡ next_number side self.now }
+    {
+        let on_target = match side {
+            Side::Source => 0,
+            Side::Target => 1,
+        };
+        2 * self.count(side) as u32 + on_target
     }
 
     /// The relation of this name.
@@ -123,8 +137,8 @@ impl Schema {
         ensures exact { result ≡ find_relation self.now name.now }
         ensures lawful { IsSchema self.now }
     {
-        let (place, _, declaration) = self.declarations.get_full(name.bytes())?;
-        Some(declaration.info(place as u32))
+        let (_, _, declaration) = self.declarations.get_full(name.bytes())?;
+        Some(declaration.info())
     }
 
     /// The name of the relation of this number.
@@ -143,9 +157,10 @@ impl Schema {
 
     /// The relation of this number.
     fn declaration(&self, rel: u32) -> Option<&Declaration>
-        ensures { option_copied result ≡ slice_get self.now rel }
+        ensures { option_map (λ d. d.now.relation) result ≡ relation_at self.now rel }
     {
-        let (_, declaration) = self.declarations.get_index(rel as usize)?;
+        let place = self.summary.place(rel)?;
+        let (_, declaration) = self.declarations.get_index(place as usize)?;
         Some(declaration)
     }
 
@@ -153,11 +168,8 @@ impl Schema {
     pub fn nth(&self, place: u32) -> Option<u32>
         ensures { result ≡ number_at self.now place }
     {
-        if place < self.len() {
-            Some(place)
-        } else {
-            None
-        }
+        let (_, declaration) = self.declarations.get_index(place as usize)?;
+        Some(declaration.number())
     }
 
     /// The number of relations of both sides.

@@ -1,0 +1,5 @@
+pub mod Causes
+pub mod Edits
+pub mod Goods
+pub mod Histories
+pub mod State
