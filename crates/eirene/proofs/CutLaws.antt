@@ -1,35 +1,32 @@
--- Laws of cutting bytes at a byte.
-use Rattle.std.proofs.Common.{◌≡◌, ℕ, ◌+◌, ◌-◌, ◌<◌, ◌==◌, nat_eq, true, false, List, [], ◌∷◌, ◌++◌, length, take, drop, Some, refl, ◌∙◌, ap, subst, arith}
-use Rattle.std.specs.List.{list_any, position, position_or_len, onto_first}
-use Rattle.std.proofs.lemmas.Bool.{or_parts, eqb-true}
-use Rattle.std.proofs.lemmas.List.{take_rest}
-use Rattle.eirene.specs.Reading.{parts}
-use Rattle.eirene.proofs.PlaceLaws.{position-some, list_any-before, split-position}
+-- Lines that are cut piece by piece.
+use Rattle.std.proofs.Common.{◌≡◌, ℕ, suc, ◌+◌, ◌≤◌, List, [], ◌∷◌, ◌++◌, true, false, cond, length, take, drop, refl, sym, ap, ◌∙◌, append_assoc, append-nil, arith}
+use Rattle.std.specs.Prelude.{◌==◌}
+use Rattle.std.proofs.lemmas.List.{length-append}
+use Rattle.eir_script.specs.Lines.{Cut, cut, cut_after, cut_at, cut_more, trimmed}
 
--- the byte is not among the bytes
-abbrev pub IsFree : ℕ → List ℕ → Type 0
-IsFree byte bytes = list_any (λ b. b == byte) bytes ≡ false
+-- the cut of two pieces is that of the second after that of the first
+pub cut_after-append : (c : Cut) (xs ys : List ℕ) → cut_after c (xs ++ ys) ≡ cut_after (cut_after c xs) ys
+cut_after-append c [] ys = refl
+cut_after-append c (x ∷ xs) ys = cut_after-append (cut_more c x) xs ys
 
-module _ (byte : ℕ) where
-  -- parts of bytes that the byte is not among, and of bytes in which it follows such
-  pub parts-free : (bytes : List ℕ) → IsFree byte bytes → parts byte bytes ≡ bytes ∷ []
-  parts-free [] f = refl
-  parts-free (b ∷ bytes) f = let e = or_parts (b == byte) (list_any (λ b. b == byte) bytes) f in rw e.0 (ap (onto_first b) (parts-free bytes e.1))
+-- the lines that stand before stay, and the others do not rest on them
+pub cut_after-shifted : (whole : List (List ℕ)) (tail bytes : List ℕ) →
+    cut_after (cut_at whole tail) bytes ≡ cut_at (whole ++ (cut_after (cut_at [] tail) bytes).whole) (cut_after (cut_at [] tail) bytes).tail
+cut_after-shifted whole tail [] = ap (λ w. cut_at w tail) (sym (append-nil whole))
+cut_after-shifted whole tail (b ∷ bytes) = elim (b == 10) as (λ t. cut_after (cond t (cut_at (whole ++ trimmed tail ∷ []) []) (cut_at whole (tail ++ b ∷ []))) bytes
+    ≡ cut_at (whole ++ (cut_after (cond t (cut_at (trimmed tail ∷ []) []) (cut_at [] (tail ++ b ∷ []))) bytes).whole) (cut_after (cond t (cut_at (trimmed tail ∷ []) []) (cut_at [] (tail ++ b ∷ []))) bytes).tail) [
+      | true ↦
+          let next : Cut = cut_after (cut_at [] []) bytes in
+          cut_after-shifted (whole ++ trimmed tail ∷ []) [] bytes
+          ∙ ap (λ w. cut_at w next.tail) (append_assoc whole (trimmed tail ∷ []) next.whole)
+          ∙ ap (λ (c : Cut). cut_at (whole ++ c.whole) c.tail) (sym (cut_after-shifted (trimmed tail ∷ []) [] bytes))
+      | false ↦ cut_after-shifted whole (tail ++ b ∷ []) bytes
+    ]
 
-  pub parts-joined : (before after : List ℕ) → IsFree byte before → parts byte (before ++ byte ∷ after) ≡ before ∷ parts byte after
-  parts-joined [] after f = rw (let e : nat_eq byte byte ≡ true = grind arith in e)
-  parts-joined (b ∷ before) after f =
-      let e = or_parts (b == byte) (list_any (λ b. b == byte) before) f in rw e.0 (ap (onto_first b) (parts-joined before after e.1))
-
-  -- the bytes before and after the first place of the byte
-  pub joined-at : (bytes : List ℕ) (n : ℕ) → position (λ b. b == byte) bytes ≡ Some n → bytes ≡ take n bytes ++ byte ∷ take (length bytes - (n + 1)) (drop (n + 1) bytes)
-  joined-at bytes n s =
-      let k = position-some (λ b. b == byte) bytes n s in
-      let r = split-position (λ b. b == byte) bytes (subst (λ i. i < length bytes) k.1 k.0) in
-      rw (take_rest bytes (n + 1), k.1) (r.2 ∙ ap (λ x. take (position_or_len (λ b. b == byte) bytes) bytes ++ x ∷ drop (position_or_len (λ b. b == byte) bytes + 1) bytes) (eqb-true _ _ r.1))
-
-  pub free-at : (bytes : List ℕ) (n : ℕ) → position (λ b. b == byte) bytes ≡ Some n → IsFree byte (take n bytes)
-  free-at bytes n s = rw (position-some (λ b. b == byte) bytes n s).1 (list_any-before (λ b. b == byte) bytes)
-
-  pub parts-at : (bytes : List ℕ) (n : ℕ) → position (λ b. b == byte) bytes ≡ Some n → parts byte bytes ≡ take n bytes ∷ parts byte (take (length bytes - (n + 1)) (drop (n + 1) bytes))
-  parts-at bytes n s = ap (parts byte) (joined-at bytes n s) ∙ parts-joined (take n bytes) _ (free-at bytes n s)
+-- there are at most as many whole lines as bytes
+pub length-whole-le : (whole : List (List ℕ)) (tail bytes : List ℕ) → length (cut_after (cut_at whole tail) bytes).whole ≤ length whole + length bytes
+length-whole-le whole tail [] = omega arith
+length-whole-le whole tail (b ∷ bytes) = elim (b == 10) as (λ t. length (cut_after (cond t (cut_at (whole ++ trimmed tail ∷ []) []) (cut_at whole (tail ++ b ∷ []))) bytes).whole ≤ length whole + suc (length bytes)) [
+  | true ↦ (let l = length-whole-le (whole ++ trimmed tail ∷ []) [] bytes in let e : length (whole ++ trimmed tail ∷ []) ≡ length whole + 1 = length-append whole (trimmed tail ∷ []) in omega arith)
+  | false ↦ (let l = length-whole-le whole (tail ++ b ∷ []) bytes in omega arith)
+]

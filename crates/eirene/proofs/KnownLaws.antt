@@ -2,7 +2,7 @@
 use Rattle.std.proofs.Common.{◌≡◌, ℕ, List, [], ◌++◌, refl, sym, ap, ◌∙◌, arith, append_assoc}
 use Rattle.std.specs.Prelude.{None, Some, Option, Result, Ok, Err, OnOk, OnErr}
 use Rattle.std.proofs.lemmas.Grind.{common_steps}
-use Rattle.std.specs.Io.KnownBytes.{Appends}
+use Rattle.std.specs.Io.KnownBytes.{Appends, Consumes}
 use Rattle.eirene.specs.Outcomes.{AppendsPrefix}
 
 -- nothing was appended
@@ -44,3 +44,14 @@ on_err P Q (Err e) f h = f h
 pub if_err : {T E : Type 0} (P : Type 0) (r : Result T E) → P → OnErr r P
 if_err P (Ok v) p = tt
 if_err P (Err e) p = p
+
+-- one piece after another is consumed
+pub consumes-nothing : (o : Option (List ℕ)) → Consumes o o []
+consumes-nothing None = tt
+consumes-nothing (Some xs) = refl
+
+pub consumes-more : (a b c : Option (List ℕ)) (xs ys : List ℕ) → Consumes a b xs → Consumes b c ys → Consumes a c (xs ++ ys)
+consumes-more None b c xs ys h k = tt
+consumes-more (Some front) None c xs ys h k = absurd h
+consumes-more (Some front) (Some bs) None xs ys h k = absurd k
+consumes-more (Some front) (Some bs) (Some cs) xs ys h k = h ∙ ap (λ s. xs ++ s) k ∙ sym (append_assoc xs ys cs)

@@ -7,7 +7,8 @@ use Rattle.eir_term.specs.declared.term.Term.{Term}
 use Rattle.eir_term.specs.declared.term.Term.TheVariants.{Var, Fixed as FixedTerm}
 use Rattle.eir_term.specs.Lists.{distinct, place_of}
 use Rattle.eir_term.specs.Dependencies.{Dependency, term_vars, vars}
-use Rattle.eirene.specs.Texts.{joined, existential_variables, premise_variables, numbered_name, variable_text, exists_names}
+use Rattle.eir_schema.specs.Schemas.{Relation}
+use Rattle.eirene.specs.Texts.{dependency_line, dependency_line_at, mapping_text, joined, existential_variables, premise_variables, numbered_name, variable_text, exists_names}
 use Rattle.eirene.proofs.ValueLaws.{distinct-filter, list_any-distinct}
 
 -- ---- texts with a separator between each two
@@ -87,3 +88,13 @@ exists_names-more n xs i l = ap (λ k. exists_names n (take k xs)) (let q : i + 
     step n (x ∷ xs) (suc i) l =
         ap (λ t. codes " " ++ numbered_name (codes "y") n ++ t) (step (suc n) xs i (omega arith) ∙ ap (λ k. exists_names (suc n) (take i xs) ++ (codes " " ++ numbered_name (codes "y") k)) (let q : suc n + i ≡ n + suc i = omega arith in q))
         ∙ sym (append_assoc (codes " " ++ numbered_name (codes "y") n) (exists_names (suc n) (take i xs)) (codes " " ++ numbered_name (codes "y") (n + suc i)))
+
+-- the lines of one dependency more
+pub mapping_text-more : (schema : List Relation) (M : List Dependency) (i : ℕ) → mapping_text schema (take (i + 1) M) ≡ mapping_text schema (take i M) ++ dependency_line_at schema M i
+mapping_text-more schema M i = ap (λ k. mapping_text schema (take k M)) (let q : i + 1 ≡ suc i = omega arith in q) ∙ step M i
+  where
+    step : (M : List Dependency) (i : ℕ) → mapping_text schema (take (suc i) M) ≡ mapping_text schema (take i M) ++ dependency_line_at schema M i
+    step [] zero = refl
+    step [] (suc i) = refl
+    step (d ∷ ds) zero = append-nil (dependency_line schema d)
+    step (d ∷ ds) (suc i) = ap (λ t. dependency_line schema d ++ t) (step ds i) ∙ sym (append_assoc (dependency_line schema d) (mapping_text schema (take i ds)) (dependency_line_at schema ds i))

@@ -1,13 +1,5 @@
 -- In the order of reading; from `Statuses` on, what contracts inside the program see of its own types.
-pub mod Lines
-pub mod Words
-pub mod Grammar
-pub mod Reading
-pub mod Names
-pub mod Schemas
-pub mod Requests
 pub mod Workspaces
-pub mod Bounds
 pub mod Replies
 pub mod Texts
 pub mod Scripts
@@ -15,12 +7,9 @@ pub mod Promise
 pub mod Outcomes
 pub mod Rows
 pub mod Statuses
-pub mod Causes
-pub mod Commands
-pub mod FilledRequests
-pub mod Findings
-pub mod Forms
-pub mod SchemaParts
-pub mod ExampleParts
 pub mod Constants
-pub mod Kept
+pub mod Findings
+pub mod Lent
+pub mod Refusals
+pub mod Steps
+pub mod Versions

@@ -1,7 +1,7 @@
 -- What a user is promised: all lines are answered, and each `fit` line, after any list of lines, is answered as the
 -- headline of `eir_term` says (this project's own words for it, over bytes).
 --   FitIsRight bytes before  == the output has, after the replies to the lines before it, the text of a finding that is right
---   FitsAreRight bytes       == this holds of each whole line that says `fit`
+--   FitsAreRight bytes       == this holds of each line that says `fit`
 --   AnswersAll               == the input was read to its end, is within the limit, all its replies were written, and each
 --                               `fit` is answered as the headline says
 use Rattle.std.specs.Prelude.{◌≡◌, ◌↔◌, ℕ, ◌≤◌, List, ◌∷◌, ◌++◌, length, Option}
@@ -9,8 +9,8 @@ use Rattle.std.specs.Io.KnownBytes.{Appends, Consumes, IsAtEnd}
 use Rattle.eir_term.specs.Dependencies.{Dependency}
 use Rattle.eir_term.specs.Headline.{Says as IsRight, SomeFits}
 use Rattle.eir_term.specs.Verdicts.{Finding, fits}
-use Rattle.eirene.specs.Lines.{cut}
-use Rattle.eirene.specs.Grammar.{Says, fit}
+use Rattle.eir_script.specs.Lines.{lines_of}
+use Rattle.eir_script.specs.Grammar.{Says, fit}
 use Rattle.eirene.specs.Workspaces.{empty_workspace, present}
 use Rattle.eirene.specs.Scripts.{workspace_after, replies, output_of}
 use Rattle.eirene.specs.Texts.{finding_text}
@@ -24,9 +24,9 @@ pub record FitIsRight (bytes : List ℕ) (before : List (List ℕ)) : Type 0 whe
   pub right : IsRight (present (workspace_after empty_workspace before)) finding
   pub exactly : SomeFits (present (workspace_after empty_workspace before)) ↔ ((M : List Dependency) × (finding ≡ fits M))
 
--- each whole line of the input that says `fit`, whatever lines stand before it, is answered so
+-- each line of the input that says `fit`, whatever lines stand before it, is answered so
 abbrev pub FitsAreRight : List ℕ → Type 0
-FitsAreRight bytes = (before later : List (List ℕ)) (line : List ℕ) → (cut bytes).whole ≡ before ++ line ∷ later → Says line fit → FitIsRight bytes before
+FitsAreRight bytes = (before later : List (List ℕ)) (line : List ℕ) → lines_of bytes ≡ before ++ line ∷ later → Says line fit → FitIsRight bytes before
 
 -- the input was read to its end, is within the limit, all its replies were written, and each `fit` is answered as the
 -- headline says

@@ -1,58 +1,91 @@
 -- What a line is answered, as data (this project's own).
+--   Request            == what `edit` serves: a declaration, an edit, an undo, or the question for a mapping
+--   given f            == a fact as a line gives it
+--   request_of c       == what a command asks, or nothing where `edit` does not serve it
 --   Reply              == done, refused, or what the fit finds
---   answer s w         == the reply to a line that says s, in the workspace that has its names
---   reply_to line w    == the reply to a line
+--   reply_to line w    == the reply to a line; a blank line has none
 --   next line w        == the workspace after a line
 use Rattle.std.specs.Prelude.{ℕ, List, Option, Some, None}
 use Rattle.eir_term.specs.declared.val.Kind.TheVariants.{Glav}
 use Rattle.eir_term.specs.Verdicts.{Finding, verdict}
-use Rattle.eirene.specs.Grammar.{Said}
-use Rattle.eirene.specs.Reading.{reading}
-use Rattle.eirene.specs.Names.{named}
-use Rattle.eirene.specs.Requests.{Request, declare, add, put, fit, names_in, numbered}
-use Rattle.eirene.specs.Workspaces.{Workspace, present, refusal, after}
-use Rattle.eirene.specs.declared.refusal.Cause.{Cause}
+use Rattle.eir_script.specs.declared.command.Command.{Command}
+use Rattle.eir_script.specs.declared.command.Command.TheVariants as command
+use Rattle.eir_script.specs.declared.command.RawFact.{RawFact}
+use Rattle.eir_script.specs.Reading.{Reading, reading}
+use Rattle.eir_script.specs.Naming.{named, names_read, command_read}
+use Rattle.eir_edit.specs.Causes.{Cause}
+use Rattle.eir_edit.specs.State.{Act, Given, declare, add, put, cut, drop, undo_last, refusal, work_after}
+use Rattle.eirene.specs.Workspaces.{Workspace, present}
 
--- done, refused, or what the fit finds
+-- an act on the desk, or the question for a mapping
+pub data Request : Type 0 where
+  act : Act → Request
+  fit : Request
+
+-- a fact as a line gives it
+abbrev pub given : RawFact → Given
+given f = record { relation = f.relation; args = f.args }
+
+-- what a command asks; every other command is not served
+abbrev pub request_of : Command → Option Request
+request_of (command.Declare side r columns) = Some (act (declare side r columns))
+request_of (command.New e) = Some (act (add e))
+request_of (command.Put e f) = Some (act (put e (given f)))
+request_of (command.Cut e f) = Some (act (cut e (given f)))
+request_of (command.Drop e) = Some (act (drop e))
+request_of command.Undo = Some (act undo_last)
+request_of command.Fit = Some fit
+request_of other = None
+
+-- done, not a line that is served, refused for a cause, or what the fit finds
 pub data Reply : Type 0 where
   accepted : Reply
-  refused : Reply
+  unread : Reply
+  refused : Cause → Reply
   found : Finding → Reply
 
--- a refusal for any cause, or done
-abbrev pub accepted_unless : Option Cause → Reply
-accepted_unless None = accepted
-accepted_unless (Some c) = refused
+-- refused for the cause, or done where there is none
+abbrev pub refused_by : Option Cause → Reply
+refused_by None = accepted
+refused_by (Some c) = refused c
 
 -- the answer to a request: a fit gets the verdict on the present examples
-abbrev pub answer : Request → Workspace → Reply
-answer (declare side r columns) w = accepted_unless (refusal (declare side r columns) w)
-answer (add e) w = accepted_unless (refusal (add e) w)
-answer (put e f) w = accepted_unless (refusal (put e f) w)
-answer fit w = found (verdict Glav (present w))
+abbrev pub answer : Option Request → Workspace → Reply
+answer None w = unread
+answer (Some (act a)) w = refused_by (refusal a w.work.desk)
+answer (Some fit) w = found (verdict Glav (present w))
 
--- the workspace whose table has the names of the line
-abbrev pub with_names : Said → Workspace → Workspace
-with_names s w = record w { names = named w.names (names_in s) }
+-- the workspace after a request; a refused one leaves it
+abbrev pub after : Option Request → Workspace → Workspace
+after None w = w
+after (Some (act a)) w = record w { work = work_after w.work a }
+after (Some fit) w = w
 
--- what is asked by a line that says s
-abbrev pub asked : Said → Workspace → Request
-asked s w = numbered (named w.names (names_in s)) s
+-- the workspace whose table has the names of a line that is read so
+abbrev pub with_names : Reading → Workspace → Workspace
+with_names r w = record w { names = named w.names (names_read r) }
 
--- the reply to a line by its reading; one that is not read is refused
-abbrev pub reply_by : Option Said → Workspace → Reply
-reply_by None w = refused
-reply_by (Some s) w = answer (asked s w) (with_names s w)
+-- the reply to a command: none to a blank line; a line that is not in the grammar is no command
+abbrev pub reply_by : Option Command → Workspace → Option Reply
+reply_by None w = Some unread
+reply_by (Some command.Blank) w = None
+reply_by (Some c) w = Some (answer (request_of c) w)
 
--- the reply to a line
-abbrev pub reply_to : List ℕ → Workspace → Reply
-reply_to line w = reply_by (reading line) w
-
--- the workspace after a line by its reading; one that is not read leaves it
-abbrev pub next_by : Option Said → Workspace → Workspace
+-- the workspace after a command
+abbrev pub next_by : Option Command → Workspace → Workspace
 next_by None w = w
-next_by (Some s) w = after (asked s w) (with_names s w)
+next_by (Some c) w = after (request_of c) w
 
--- the workspace after a line
+-- the reply to a line: its names get numbers, and its command is answered
+abbrev pub reply_read : Reading → Workspace → Option Reply
+reply_read r w = let named_so = with_names r w in reply_by (command_read named_so.names r) named_so
+
+abbrev pub reply_to : List ℕ → Workspace → Option Reply
+reply_to line w = reply_read (reading line) w
+
+-- the workspace after a line; the names of a line that is refused are kept
+abbrev pub next_read : Reading → Workspace → Workspace
+next_read r w = let named_so = with_names r w in next_by (command_read named_so.names r) named_so
+
 abbrev pub next : List ℕ → Workspace → Workspace
-next line w = next_by (reading line) w
+next line w = next_read (reading line) w

@@ -1,5 +1,5 @@
 -- The definitions computed on worked scripts.
-use Rattle.std.specs.Prelude.{◌≡◌, [], ◌++◌, codes, refl}
+use Rattle.std.specs.Prelude.{◌≡◌, [], ◌∷◌, ◌++◌, codes, refl}
 use Rattle.std.specs.Fmt.{digits}
 use Rattle.eirene.specs.Scripts.{output_of}
 
@@ -10,9 +10,14 @@ only_fit : output_of (codes "fit\n") ≡ codes "fits glav 0\n"
 unfolding digits
 only_fit = refl
 
--- the line feed at the end is wanted
-unended_fit : output_of (codes "fit") ≡ codes "refused 1 line\n"
+-- a last line needs no line feed, and a carriage return belongs to the end
+unended_fit : output_of (codes "fit" ++ 13 ∷ 10 ∷ codes "fit") ≡ codes "fits glav 0\nfits glav 0\n"
+unfolding digits
 unended_fit = refl
+
+-- blank lines and comments have no reply
+blank_lines : output_of (codes "\n  # put\n\n") ≡ []
+blank_lines = refl
 
 one_employee : output_of (codes "source Emp(name,dept)\ntarget Works(name,room)\nnew e1\nput e1 Emp(ann,hr)\nput e1 Works(ann,?b)\nfit\n")
     ≡ codes "ok\nok\nok\nok\nok\nfits glav 1\nEmp(x1,x2) -> exists y1 . Works(x1,y1)\n"
@@ -34,8 +39,8 @@ missing_target : output_of (codes "source R(a)\ntarget T(a)\nnew e1\nput e1 R(a)
     ≡ codes "ok\nok\nok\nok\nok\nok\nok\nrefuted e2 e1 b->a\n"
 missing_target = refl
 
--- refused lines: a space too many, an unknown relation, another arity, a null in a source, no example, a fact that is
--- there, a name that is taken, no form
-refusals : output_of (codes "source Emp(name,dept)\nsource  Works(name)\nnew e1\nput e1 Emq(ann,hr)\nput e1 Emp(ann)\nput e1 Emp(?x,hr)\nput e2 Emp(ann,hr)\nput e1 Emp(ann,hr)\nput e1 Emp(ann,hr)\nnew e1\nput e1\n")
-    ≡ codes "ok\n" ++ codes "refused 1 line\n" ++ codes "ok\n" ++ codes "refused 1 line\nrefused 1 line\nrefused 1 line\nrefused 1 line\n" ++ codes "ok\n" ++ codes "refused 1 line\nrefused 1 line\nrefused 1 line\n"
+-- refused lines: an unknown relation, another arity, a null in a source, no example, a fact that is there, one that is
+-- not, a name that is taken, no form, a line that is not served, and nothing to undo
+refusals : output_of (codes "source Emp(name,dept)\nnew e1\nput e1 Emq(ann,hr)\nput e1 Emp(ann)\nput e1 Emp(?x,hr)\nput e2 Emp(ann,hr)\nput e1 Emp(ann,hr)\nput e1 Emp(ann,hr)\ncut e1 Emp(bob,hr)\nnew e1\nput e1\ntries\nundo\nundo\nundo\n")
+    ≡ codes "ok\nok\nrefused 3 relation\nrefused 4 arity\nrefused 5 null\nrefused 6 example\nok\nrefused 7 there\nrefused 8 missing\nrefused 2 taken\nrefused 1 line\nrefused 1 line\nok\nok\nrefused 10 nothing\n"
 refusals = refl

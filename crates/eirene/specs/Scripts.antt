@@ -2,11 +2,12 @@
 --   replies w lines    == the texts of the replies to these lines, in order
 --   workspace_after    == the workspace after these lines
 --   output_of bytes    == all that is written for an input
+--   whole_output bytes == the replies to its whole lines alone, which are those that a line feed ends
 use Rattle.std.specs.Prelude.{ℕ, List, [], ◌∷◌, ◌++◌}
-use Rattle.eirene.specs.Lines.{Cut, cut}
+use Rattle.eir_script.specs.Lines.{cut, lines_of}
 use Rattle.eirene.specs.Workspaces.{Workspace, empty_workspace}
 use Rattle.eirene.specs.Replies.{reply_to, next}
-use Rattle.eirene.specs.Texts.{reply_text, refused_text}
+use Rattle.eirene.specs.Texts.{reply_text}
 
 -- the text of the reply to a line
 abbrev pub line_reply : Workspace → List ℕ → List ℕ
@@ -22,15 +23,14 @@ abbrev pub workspace_after : Workspace → List (List ℕ) → Workspace
 workspace_after w [] = w
 workspace_after w (line ∷ lines) = workspace_after (next line w) lines
 
--- bytes after the last line feed are a line that is refused
-abbrev pub unended_reply : List ℕ → List ℕ
-unended_reply [] = []
-unended_reply (b ∷ bytes) = refused_text
-
--- the replies to the whole lines, then to what comes after them
-abbrev pub cut_output : Cut → List ℕ
-cut_output c = replies empty_workspace c.whole ++ unended_reply c.tail
+-- what is written for these lines from the start of a script
+abbrev pub output_for : List (List ℕ) → List ℕ
+output_for lines = replies empty_workspace lines
 
 -- all that is written for an input
 abbrev pub output_of : List ℕ → List ℕ
-output_of bytes = cut_output (cut bytes)
+output_of bytes = output_for (lines_of bytes)
+
+-- the replies to its whole lines alone, which are those that a line feed ends
+abbrev pub whole_output : List ℕ → List ℕ
+whole_output bytes = output_for (cut bytes).whole

@@ -1,12 +1,12 @@
 -- Exit statuses: their numbers and the texts on standard error (this project's own).
 --   status_number s  == the exit status
 --   status_text s    == what is printed on standard error, if anything
---   status_of_read stop, status_of_write stop  == the status of a run that stops so
+--   status_of stop   == the status of a run that stops so
 use Rattle.std.specs.Prelude.{ℕ, List, Option, Some, None, codes}
 use Rattle.eir_io.specs.declared.stop.Stop.{Stop}
 use Rattle.eir_io.specs.declared.stop.Stop.TheVariants as stop
-use Rattle.eirene.specs.declared.input.ReadStop.{ReadStop}
-use Rattle.eirene.specs.declared.input.ReadStop.TheVariants as read
+use Rattle.eirene.specs.declared.input.InputStop.{InputStop}
+use Rattle.eirene.specs.declared.input.InputStop.TheVariants as input
 use Rattle.eirene.specs.declared.status.Status.{Status}
 use Rattle.eirene.specs.declared.status.Status.TheVariants.{Done, CheckNo, BadWords, ReadFault, WriteFault, Memory, InputTooLong, ShelfFault}
 
@@ -32,13 +32,9 @@ status_text Memory = Some (codes "eirene: out of memory")
 status_text InputTooLong = Some (codes "eirene: input too long")
 status_text ShelfFault = Some (codes "eirene: shelf fault")
 
--- the status of a run whose input was not read to its end
-abbrev pub status_of_read : ReadStop → Status
-status_of_read read.Fault = ReadFault
-status_of_read read.TooLong = InputTooLong
-status_of_read read.Memory = Memory
-
--- the status of a run whose replies were not all written
-abbrev pub status_of_write : Stop → Status
-status_of_write stop.Failed = WriteFault
-status_of_write stop.Memory = Memory
+-- the status of a run that stops so
+abbrev pub status_of : InputStop → Status
+status_of input.Fault = ReadFault
+status_of input.TooLong = InputTooLong
+status_of (input.Reply stop.Failed) = WriteFault
+status_of (input.Reply stop.Memory) = Memory

@@ -1,52 +1,46 @@
 //! The canonical mapping.
-ghost use Rattle.std.specs.Prelude.{◌≡◌, ◌+◌, ◌++◌, ◌^◌, ◌<◌, ℕ, IfOk, OnOk, length, map};
+ghost use Rattle.std.specs.Prelude.{◌≡◌, ◌+◌, ◌++◌, ◌^◌, ◌<◌, ℕ, None, IfOk, OnOk, length, map};
 ghost use Rattle.eir_term.specs.declared.val.Kind.TheVariants.{Glav};
 ghost use Rattle.eir_term.specs.declared.fact.Fact.{Fact};
 ghost use Rattle.eir_term.specs.Lists.{◌∈◌};
 ghost use Rattle.eir_term.specs.Instances.{consts, nulls};
 ghost use Rattle.eir_term.specs.Canonical.{variables, term_of, atom_of, numbers, glav_dependency, unless_empty, canon};
-ghost use Rattle.eirene.specs.Bounds.{IsSmallFact, FewVariables};
-ghost use Rattle.eirene.specs.Findings.{dependency_of};
-ghost use Rattle.eirene.specs.Workspaces.{data_example};
+ghost use Rattle.eir_term.specs.Dependencies.{IsDependency};
+ghost use Rattle.eir_term.specs.Verdicts.{domain_finding};
+ghost use Rattle.eir_term.specs.Headline.{AllSources};
+ghost use Rattle.eirene.specs.Lent.{pairs_of};
 
 use crate::data_example::DataExample;
-use crate::examples::Examples;
 use crate::values::{constants_of, nulls_of};
+use eir_dep::{Dep, Mapping};
+use eir_edit::Example;
 use eir_term::{Atom, Fact, Memory, Term, Val};
 use indexmap::IndexSet;
 use std::alloc::Global;
-
-/// A dependency: the premise implies that values for the existential variables meet the conclusion.
-#[derive(Drop)]
-pub struct Dep {
-    pub premise: Vec<Atom>,
-    pub exists: Vec<u32>,
-    pub conclusion: Vec<Atom>,
-}
+use std::rc::Rc;
 
 /// All source facts imply all target facts, with a variable for each constant of the source and an existential one
 /// for each null of the target (Alexe, ten Cate, Kolaitis, Tan 2011).
 pub fn glav_dependency(alloc: Global, example: &DataExample) -> Result<Dep, Memory>
-    requires few { FewVariables example.now }
-    requires small_source { (f : Fact) → f ∈ example.now.source → IsSmallFact f }
-    requires small_target { (f : Fact) → f ∈ example.now.target → IsSmallFact f }
-    ensures { IfOk result (λ d. dependency_of d ≡ glav_dependency example.now) }
+    requires { IsDependency (glav_dependency example.now) }
+    ensures { IfOk result (λ d. d ≡ glav_dependency example.now) }
 {
     let (variables, exists) = variables(alloc, example)?;
     let premise = atoms(alloc, &variables, example.source().as_slice())?;
     let conclusion = atoms(alloc, &variables, example.target().as_slice())?;
-    Ok(Dep {
-        premise,
-        exists,
-        conclusion,
-    })
+    match Dep::new(premise, exists, conclusion) {
+        Ok(dep) => Ok(dep),
+        Err(_) => unreachable!(),
+    }
 }
 
-/// One dependency for each example with a non-empty target.
-pub fn canonical_mapping(alloc: Global, examples: &Examples) -> Result<Vec<Dep>, Memory>
-    ensures { IfOk result (λ v. map dependency_of v.items ≡ canon Glav (map data_example examples.now)) }
+/// One dependency for each example with a non-empty target, where no constant is foreign.
+pub fn canonical_mapping(alloc: Global, examples: &[Rc<Example>]) -> Result<Mapping, Memory>
+    requires sources { AllSources (pairs_of examples.now) }
+    requires none_foreign { domain_finding (pairs_of examples.now) ≡ None }
+    ensures { IfOk result (λ m. m ≡ canon Glav (pairs_of examples.now)) }
 {
-    let mut mapping = Vec::new(alloc);
+    let mut mapping = Mapping::new(alloc);
     for place in 0..examples.len() {
         let example = DataExample::at(examples, place);
         push_dependency(alloc, &mut mapping, &example)?;
@@ -57,13 +51,11 @@ pub fn canonical_mapping(alloc: Global, examples: &Examples) -> Result<Vec<Dep>,
 /// Appends the dependency of an example, where its target is not empty.
 fn push_dependency(
     alloc: Global,
-    mapping: &mut Vec<Dep>,
+    mapping: &mut Mapping,
     example: &DataExample,
 ) -> Result<(), Memory>
-    requires few { FewVariables example.now }
-    requires small_source { (f : Fact) → f ∈ example.now.source → IsSmallFact f }
-    requires small_target { (f : Fact) → f ∈ example.now.target → IsSmallFact f }
-    ensures { OnOk result (map dependency_of mapping.new.items ≡ map dependency_of mapping.old.items
+    requires { (f : Fact) → f ∈ example.now.target → IsDependency (glav_dependency example.now) }
+    ensures { OnOk result (mapping.new ≡ mapping.old
         ++ unless_empty example.now.target (glav_dependency example.now)) }
 {
     match example.target().as_slice() {
@@ -74,14 +66,18 @@ fn push_dependency(
 }
 
 /// What becomes a variable, with the numbers of the existential ones. The variable of a value is its place, from 1.
+/// More variables than 32 bits number, which no memory holds, are refused as want of memory.
 fn variables(alloc: Global, example: &DataExample) -> Result<(IndexSet<Val>, Vec<u32>), Memory>
-    requires { FewVariables example.now }
     ensures all { IfOk result (λ r. r.0.keys ≡ variables example.now) }
     ensures exists { IfOk result (λ r. r.1.items
         ≡ numbers (length (consts example.now.source)) (nulls example.now.target)) }
+    ensures few { IfOk result (λ r. length r.0.keys < 4294967295) }
 {
     let constants = constants_of(alloc, example.source())?;
     let nulls = nulls_of(alloc, example.target())?;
+    if constants.len() + nulls.len() >= u32::MAX as usize {
+        return Err(Memory);
+    }
     let exists = numbers(alloc, constants.len(), &nulls)?;
     let mut variables = IndexSet::new(alloc);
     variables.extend(constants.as_slice())?;
@@ -103,8 +99,7 @@ fn numbers(alloc: Global, before: usize, values: &[Val]) -> Result<Vec<u32>, Mem
 
 /// The atoms that the facts become.
 fn atoms(alloc: Global, variables: &IndexSet<Val>, facts: &[Fact]) -> Result<Vec<Atom>, Memory>
-    requires few { length variables.now.keys < 4294967295 }
-    requires small { (f : Fact) → f ∈ facts.now → IsSmallFact f }
+    requires { length variables.now.keys < 4294967295 }
     ensures { IfOk result (λ v. v.items ≡ map (atom_of variables.now.keys) facts.now) }
 {
     let mut atoms = Vec::new(alloc);
@@ -116,12 +111,12 @@ fn atoms(alloc: Global, variables: &IndexSet<Val>, facts: &[Fact]) -> Result<Vec
 
 /// The atom that a fact becomes.
 fn atom_of(alloc: Global, variables: &IndexSet<Val>, fact: &Fact) -> Result<Atom, Memory>
-    requires few { length variables.now.keys < 4294967295 }
-    requires small { IsSmallFact fact.now }
+    requires { length variables.now.keys < 4294967295 }
     ensures { IfOk result (λ a. a ≡ atom_of variables.now.keys fact.now) }
 {
     let mut terms = Vec::new(alloc);
-    for value in fact.args.as_slice() {
+    let values = fact.args.as_slice();
+    for value in values {
         terms.push(term_of(variables, *value))?;
     }
     Atom::make(alloc, fact.rel, &terms)

@@ -1,8 +1,9 @@
 //! Data examples.
-ghost use Rattle.std.specs.Prelude.{◌≡◌, ◌<◌, Some, length, map, slice_get};
-ghost use Rattle.eirene.specs.Workspaces.{data_example};
+ghost use Rattle.std.specs.Prelude.{◌≡◌, ◌<◌, Some, length, slice_get};
+ghost use Rattle.eirene.specs.Workspaces.{pair_of};
+ghost use Rattle.eirene.specs.Lent.{pairs_of};
 
-use crate::examples::Examples;
+use eir_edit::Example;
 use eir_inst::Instance;
 use std::marker::Model;
 use std::rc::Rc;
@@ -15,22 +16,29 @@ pub struct DataExample<'a> {
 }
 
 impl<'a> Model for DataExample<'a> {
-    ghost use Rattle.eir_term.specs.Fitting.{DataExample as Example};
+    ghost use Rattle.eir_term.specs.Fitting.{DataExample as Pair};
 
-    ghost Value = { Example };
+    ghost Value = { Pair };
 
     ghost view = { λ e. record { source = e.source.now.value.facts; target = e.target.now.value.facts } };
 }
 
 impl DataExample<'_> {
     /// The example at a place, counted from 0.
-    pub fn at(examples: &Examples, place: usize) -> DataExample<'_>
+    pub fn at(examples: &[Rc<Example>], place: usize) -> DataExample<'_>
         requires { place < length examples.now }
-        ensures { slice_get (map data_example examples.now) place ≡ Some result }
+        ensures { slice_get (pairs_of examples.now) place ≡ Some result }
     {
-        match (examples.source(place), examples.target(place)) {
-            (Some(source), Some(target)) => DataExample { source, target },
-            _ => unreachable!(),
+        DataExample::of(&examples[place])
+    }
+
+    /// The example without its name and version.
+    fn of(example: &Example) -> DataExample<'_>
+        ensures { result ≡ pair_of example.now }
+    {
+        DataExample {
+            source: &example.source,
+            target: &example.target,
         }
     }
 

@@ -1,10 +1,15 @@
-//! The whole input.
-ghost use Rattle.std.specs.Prelude.{◌≡◌, ◌<◌, ◌≤◌, ◌+◌, ◌-◌, ◌^◌, ◌++◌, min, List, ℕ, length, OnErr, IfOk, IfSome, IsErrOf};
-ghost use Rattle.std.specs.Io.KnownBytes.{Consumes, IsAtEnd};
+//! The input, piece by piece.
+ghost use Rattle.std.specs.Prelude.{◌≡◌, ◌≤◌, ◌<◌, ◌+◌, min, OnOk, IsErrOf};
 ghost use Rattle.eir_io.specs.Causes.{Rose};
+ghost use Rattle.eir_io.specs.declared.stop.Stop.{Stop};
+ghost use Rattle.eir_io.specs.declared.stop.Stop.TheVariants as stop;
+ghost use Rattle.eirene.specs.Promise.{AnswersAll};
+ghost use Rattle.eirene.specs.Outcomes.{AnswersWhole, AnswersWithin, StopsWithin};
 
-use eir_io::{Failed, Source};
-use std::alloc::{AllocError, Global};
+use crate::script::Script;
+use eir_io::{Failed, Sink, Source, Stop};
+use eir_term::Memory;
+use std::alloc::Global;
 
 /// The most bytes of an input.
 pub const INPUT_LIMIT: usize = 16_777_216;
@@ -12,57 +17,84 @@ pub const INPUT_LIMIT: usize = 16_777_216;
 /// The bytes that are asked for at a time.
 const PIECE: usize = 4096;
 
-/// Why the input was not read to its end.
+/// Why an input was not answered to its end.
 #[derive(Clone, Copy, Debug, PartialEq, Eq)]
-pub enum ReadStop {
+pub enum InputStop {
+    /// A read failed.
     Fault,
+    /// The input has more bytes than it may have.
     TooLong,
-    Memory,
+    /// A write failed, or there was no memory.
+    Reply(Stop),
 }
 
-impl From<Failed> for ReadStop {
-    ghost use Rattle.eirene.specs.declared.input.ReadStop.TheVariants.{Fault};
+impl From<Failed> for InputStop {
+    ghost use Rattle.eirene.specs.declared.input.InputStop.TheVariants.{Fault};
     ghost use Rattle.std.specs.Prelude.{◌≡◌};
 
     ghost from_gives = { λ _ e. e ≡ Fault };
 
     fn from(_: Failed) -> Self {
-        ReadStop::Fault
+        InputStop::Fault
     }
 }
 
-impl From<AllocError> for ReadStop {
-    ghost use Rattle.eirene.specs.declared.input.ReadStop.TheVariants.{Memory};
+impl From<Stop> for InputStop {
+    ghost use Rattle.eirene.specs.declared.input.InputStop.TheVariants.{Reply};
     ghost use Rattle.std.specs.Prelude.{◌≡◌};
 
-    ghost from_gives = { λ _ e. e ≡ Memory };
+    ghost from_gives = { λ stop e. e ≡ Reply stop };
 
-    fn from(_: AllocError) -> Self {
-        ReadStop::Memory
+    fn from(stop: Stop) -> Self {
+        InputStop::Reply(stop)
     }
 }
 
-/// Reads to the end of the input, which may have 16,777,216 bytes. The source is asked again only after it gave
-/// at least one byte, so the turns of the loop are never used up.
-pub fn read_all<S: Source>(alloc: Global, input: &mut S) -> Result<Vec<u8>, ReadStop>
-    ensures all { IfOk result (λ bytes. Consumes (S.left input.old) (S.left input.new) bytes.items
-        × IsAtEnd (S.left input.new)) }
-    ensures within { IfOk result (λ bytes. length bytes.items ≤ INPUT_LIMIT) }
-    ensures too_long { IsErrOf result ReadStop.TooLong → IfSome (S.left input.old) (λ all. INPUT_LIMIT < length all) }
-    ensures fault { IsErrOf result ReadStop.Fault → Rose (S.faults input.old) (S.faults input.new) }
-    ensures later { S.faults input.old ≤ S.faults input.new }
+impl From<Memory> for InputStop {
+    ghost use Rattle.eir_io.specs.declared.stop.Stop.TheVariants as stop;
+    ghost use Rattle.eirene.specs.declared.input.InputStop.TheVariants.{Reply};
+    ghost use Rattle.std.specs.Prelude.{◌≡◌};
+
+    ghost from_gives = { λ _ e. e ≡ Reply stop.Memory };
+
+    fn from(_: Memory) -> Self {
+        InputStop::Reply(Stop::Memory)
+    }
+}
+
+/// Answers an input, which may have 16,777,216 bytes. Before the source is asked again, each whole line that was read
+/// is answered and its reply is written.
+pub fn answer_input<S: Source, K: Sink>(
+    alloc: Global,
+    input: &mut S,
+    out: &mut K,
+) -> Result<(), InputStop>
+    ensures ok { OnOk result
+        (AnswersAll (S.left input.old) (S.left input.new) (K.written out.old) (K.written out.new) INPUT_LIMIT) }
+    ensures fault { IsErrOf result InputStop.Fault → Rose (S.faults input.old) (S.faults input.new)
+        × AnswersWhole (S.left input.old) (S.left input.new) (K.written out.old) (K.written out.new) INPUT_LIMIT }
+    ensures too_long { IsErrOf result InputStop.TooLong
+        → AnswersWithin (S.left input.old) (S.left input.new) (K.written out.old) (K.written out.new) INPUT_LIMIT }
+    ensures stops { (stop : Stop) → IsErrOf result (InputStop.Reply stop)
+        → StopsWithin (S.left input.old) (S.left input.new) (K.written out.old) (K.written out.new) INPUT_LIMIT }
+    ensures write { IsErrOf result (InputStop.Reply stop.Failed) → Rose (K.faults out.old) (K.faults out.new) }
+    ensures later { (S.faults input.old ≤ S.faults input.new) × (K.faults out.old ≤ K.faults out.new) }
 {
-    let mut bytes = Vec::new(alloc);
+    let mut script = Script::new(alloc)?;
     let mut piece = [0; PIECE];
+    let mut room = INPUT_LIMIT;
     for _turn in 0..INPUT_LIMIT + 1 {
         let count = input.read(&mut piece)?;
         if count == 0 {
-            return Ok(bytes);
+            script.end(out)?;
+            return Ok(());
         }
-        bytes.extend_from_slice(&piece[..count])?;
-        if bytes.len() > INPUT_LIMIT {
-            return Err(ReadStop::TooLong);
+        let within = count.min(room);
+        script.take(&piece[..within], out)?;
+        if within < count {
+            return Err(InputStop::TooLong);
         }
+        room -= within;
     }
     // Each turn took a byte.
     unreachable!()

@@ -1,34 +1,26 @@
 //! The program `eirene`: it reads lines that declare two schemas and edit data examples, and prints the most
 //! general GLAV mapping for which every target is a universal solution of its source, or shows why none is.
 //!
-//! `top` has the one call, `run`; every other module holds one concept behind a contract of its own, so that it can
-//! become a crate. `main` makes the real streams, calls `run`, prints the text of its status, and has nothing else.
+//! `top` has the one call, `run`; every other module holds one concept behind a contract of its own. Lines are read
+//! by `eir_script`, schemas and names are kept by `eir_schema`, examples with their undo list by `eir_edit`,
+//! mappings by `eir_dep`. `main` makes the real streams, calls `run`, prints the text of its status, and has nothing
+//! else.
 //!
 //! # What a contract sees
 //!
-//! `run` speaks of the bytes that its source and its sink tell, in the words of `specs/Promise`: all that is
-//! written for an input is `output_of` of its bytes (`specs/Scripts`), a fold of `reply_to` and `next` over the lines
-//! (`specs/Replies`); a `fit` is answered by `verdict` of `eir_term` on the present examples. The texts stand in
-//! `specs/Texts`, apart from the code that prints them.
+//! `run` speaks of the bytes that its source and its sink tell, in the words of `specs/Promise` and
+//! `specs/Outcomes`: all that is written for an input is `output_of` of its bytes (`specs/Scripts`), a fold of
+//! `reply_to` and `next` over the lines (`specs/Replies`); a `fit` is answered by `verdict` of `eir_term` on the
+//! present examples. The texts stand in `specs/Texts`, apart from the code that prints them.
 #![tactic(auto)]
 
 mod canonical;
-mod command;
-mod cuts;
 mod data_example;
-mod examples;
-mod forms;
 mod input;
-mod lines;
-mod names;
 mod outbox;
 mod print;
-mod reader;
-#[cfg(test)]
-mod reader_tests;
 mod refusal;
 mod reply;
-mod schema;
 mod script;
 mod status;
 #[cfg(test)]
@@ -36,7 +28,6 @@ mod tests;
 mod top;
 mod values;
 mod verdict;
-mod words;
 mod workspace;
 
 use crate::status::Status;

@@ -1,10 +1,13 @@
-//! Why a line of the grammar is refused.
+//! Why a line is refused.
+use eir_edit::EditRefused;
+use eir_schema::DeclareRefused;
 use eir_term::Memory;
-use std::alloc::{AllocError, AllocFailed};
 
-/// The cause for which a request is refused.
+/// The cause for which a line is refused, in the order of its number.
 #[derive(Clone, Copy, Debug, PartialEq, Eq)]
 pub enum Cause {
+    /// The line is not in the grammar, or it is not served.
+    Line,
     /// The name, or a column of the declaration, is there already.
     Taken,
     /// No relation has the name.
@@ -17,26 +20,19 @@ pub enum Cause {
     Example,
     /// The fact stands in the instance.
     There,
-    /// The request would take a counted quantity above its limit.
+    /// The fact does not stand in the instance.
+    Missing,
+    /// The line would take a counted quantity above its limit, which is given.
     Full(u64),
+    /// The undo list is empty.
+    Nothing,
 }
 
-/// A request was refused for a cause, or there was no memory. Either leaves what was asked to change.
+/// A line was refused for a cause, or there was no memory. Either leaves what the line was to change.
 #[derive(Clone, Copy, Debug, PartialEq, Eq)]
 pub enum Refusal {
     For(Cause),
     Memory,
-}
-
-impl From<Cause> for Refusal {
-    ghost use Rattle.std.specs.Prelude.{◌≡◌};
-    ghost use Rattle.eirene.specs.declared.refusal.Refusal.TheVariants.{For};
-
-    ghost from_gives = { λ c e. e ≡ For c };
-
-    fn from(cause: Cause) -> Self {
-        Refusal::For(cause)
-    }
 }
 
 impl From<Memory> for Refusal {
@@ -50,24 +46,38 @@ impl From<Memory> for Refusal {
     }
 }
 
-impl From<AllocError> for Refusal {
+impl From<DeclareRefused> for Refusal {
     ghost use Rattle.std.specs.Prelude.{◌≡◌};
-    ghost use Rattle.eirene.specs.declared.refusal.Refusal.TheVariants as refusal;
+    ghost use Rattle.eirene.specs.Refusals.{refusal_of_declaration};
 
-    ghost from_gives = { λ _ e. e ≡ refusal.Memory };
+    ghost from_gives = { λ refused e. e ≡ refusal_of_declaration refused };
 
-    fn from(_: AllocError) -> Self {
-        Refusal::Memory
+    fn from(refused: DeclareRefused) -> Self {
+        match refused {
+            DeclareRefused::Taken => Refusal::For(Cause::Taken),
+            DeclareRefused::Full(limit) => Refusal::For(Cause::Full(limit)),
+            DeclareRefused::Memory => Refusal::Memory,
+        }
     }
 }
 
-impl<T: Drop> From<AllocFailed<T>> for Refusal {
+impl From<EditRefused> for Refusal {
     ghost use Rattle.std.specs.Prelude.{◌≡◌};
-    ghost use Rattle.eirene.specs.declared.refusal.Refusal.TheVariants as refusal;
+    ghost use Rattle.eirene.specs.Refusals.{refusal_of_edit};
 
-    ghost from_gives = { λ _ e. e ≡ refusal.Memory };
+    ghost from_gives = { λ refused e. e ≡ refusal_of_edit refused };
 
-    fn from(_: AllocFailed<T>) -> Self {
-        Refusal::Memory
+    fn from(refused: EditRefused) -> Self {
+        match refused {
+            EditRefused::Taken => Refusal::For(Cause::Taken),
+            EditRefused::NoExample => Refusal::For(Cause::Example),
+            EditRefused::There => Refusal::For(Cause::There),
+            EditRefused::Missing => Refusal::For(Cause::Missing),
+            EditRefused::Full(limit) => Refusal::For(Cause::Full(limit)),
+            EditRefused::Nothing => Refusal::For(Cause::Nothing),
+            // Nothing is lent in `edit`.
+            EditRefused::Foreign(_, _) => Refusal::Memory,
+            EditRefused::Memory => Refusal::Memory,
+        }
     }
 }

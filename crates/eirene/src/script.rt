@@ -1,122 +1,150 @@
-//! A script, line by line.
-ghost use Rattle.std.specs.Prelude.{◌≡◌, ◌≤◌, ◌++◌, [], ◌∷◌, List, ℕ, OnOk, OnErr};
+//! A script that is answered while it is read.
+ghost use Rattle.std.specs.Prelude.{◌≡◌, ◌≤◌, ◌+◌, ◌++◌, false, List, [], ℕ, length, take, option_map, IfOk, OnOk, OnErr};
 ghost use Rattle.std.specs.Io.KnownBytes.{Appends};
 ghost use Rattle.eir_io.specs.Causes.{HasStopCause};
-ghost use Rattle.eirene.specs.Lines.{cut, cut_after, cut_at};
+ghost use Rattle.eir_script.specs.Lines.{last_line, trimmed};
+ghost use Rattle.eir_script.specs.Pieces.{Holds, nothing_taken};
 ghost use Rattle.eirene.specs.Outcomes.{AppendsPrefix, AppendsBut};
-ghost use Rattle.eirene.specs.Replies.{next};
-ghost use Rattle.eirene.specs.Scripts.{line_reply, unended_reply, output_of};
-ghost use Rattle.eirene.specs.Findings.{finding_of, told};
-ghost use Rattle.eirene.specs.Texts.{finding_text, reply_text};
+ghost use Rattle.eirene.specs.Workspaces.{empty_workspace};
+ghost use Rattle.eirene.specs.Replies.{next, reply_to};
+ghost use Rattle.eirene.specs.Findings.{told};
+ghost use Rattle.eirene.specs.Scripts.{line_reply, replies};
+ghost use Rattle.eirene.specs.Steps.{AnswersLines, AnswersPiece, IsIdle, cut_on};
+ghost use Rattle.eirene.specs.Versions.{HasVersions};
 
-use crate::lines::next_line;
 use crate::outbox::Outbox;
-use crate::print::print_verdict;
-use crate::reply::{Reply, answer_to};
-use crate::verdict::Verdict;
+use crate::refusal::Cause;
+use crate::reply::{Reply, add_reply};
 use crate::workspace::Workspace;
 use eir_io::{Sink, Stop};
-use eir_term::Text;
+use eir_script::{Cutter, LineBytes};
+use eir_term::Memory;
 use std::alloc::Global;
 
-/// What an accepted line is answered.
-const ACCEPTED: &[u8] = b"ok\n";
-
-/// What a refused line is answered.
-const REFUSED: &[u8] = b"refused 1 line\n";
-
-/// Adds what the fit found to what is pending.
-fn add_found<K: Sink>(
+/// What a script has after some of its bytes: the workspace that its lines left, the line that is not ended, and the
+/// replies that are not written.
+#[derive(Drop)]
+pub struct Script {
     alloc: Global,
-    verdict: &Verdict,
-    workspace: &Workspace,
-    pending: &mut Outbox,
-    out: &mut K,
-) -> Result<(), Stop>
-    ensures ok { OnOk result (AppendsBut (K.written out.old) (K.written out.new) pending.new
-        (pending.old ++ finding_text workspace.now (finding_of verdict.now))) }
-    ensures err { OnErr result (AppendsPrefix (K.written out.old) (K.written out.new)
-        (pending.old ++ finding_text workspace.now (finding_of verdict.now))) }
-    ensures cause { HasStopCause (K.faults out.old) (K.faults out.new) result }
-{
-    let mut text = Text::make(alloc, b"")?;
-    print_verdict(alloc, verdict, workspace, &mut text)?;
-    pending.add(text.bytes(), out)
+    workspace: Workspace,
+    cutter: Cutter,
+    pending: Outbox,
 }
 
-/// Adds the text of a reply to what is pending.
-fn add_reply<K: Sink>(
-    alloc: Global,
-    reply: &Reply,
-    workspace: &Workspace,
-    pending: &mut Outbox,
-    out: &mut K,
-) -> Result<(), Stop>
-    ensures ok { OnOk result (AppendsBut (K.written out.old) (K.written out.new) pending.new
-        (pending.old ++ reply_text workspace.now (told reply.now))) }
-    ensures err { OnErr result (AppendsPrefix (K.written out.old) (K.written out.new)
-        (pending.old ++ reply_text workspace.now (told reply.now))) }
-    ensures cause { HasStopCause (K.faults out.old) (K.faults out.new) result }
-{
-    match reply {
-        Reply::Accepted => pending.add(ACCEPTED, out),
-        Reply::Refused => pending.add(REFUSED, out),
-        Reply::Found(verdict) => add_found(alloc, verdict, workspace, pending, out),
+impl Script {
+    /// A script of which nothing was read.
+    pub fn new(alloc: Global) -> Result<Script, Memory>
+        ensures workspace { IfOk result (λ s. s.workspace ≡ empty_workspace) }
+        ensures cutter { IfOk result (λ s. s.cutter ≡ nothing_taken) }
+        ensures pending { IfOk result (λ s. s.pending ≡ []) }
+    {
+        Ok(Script {
+            alloc,
+            workspace: Workspace::new(alloc),
+            cutter: Cutter::new(alloc)?,
+            pending: Outbox::new(alloc),
+        })
     }
-}
 
-/// Answers a line, and adds the text of the reply to what is pending.
-fn answer_line<K: Sink>(
-    alloc: Global,
-    line: &[u8],
-    workspace: &mut Workspace,
-    pending: &mut Outbox,
-    out: &mut K,
-) -> Result<(), Stop>
-    ensures ok { OnOk result (AppendsBut (K.written out.old) (K.written out.new) pending.new
-        (pending.old ++ line_reply workspace.old line.now)) }
-    ensures next { OnOk result (workspace.new ≡ next line.now workspace.old) }
-    ensures err { OnErr result (AppendsPrefix (K.written out.old) (K.written out.new)
-        (pending.old ++ line_reply workspace.old line.now)) }
-    ensures cause { HasStopCause (K.faults out.old) (K.faults out.new) result }
-{
-    let reply = answer_to(alloc, line, workspace)?;
-    add_reply(alloc, &reply, workspace, pending, out)
-}
-
-/// The text for the bytes after the last line feed: nothing where there are none.
-fn unended_text(rest: &[u8]) -> &'static [u8]
-    ensures { result.now ≡ unended_reply rest.now }
-{
-    match rest {
-        [] => b"",
-        [_, ..] => REFUSED,
+    /// Answers each line that these bytes end, and writes the replies.
+    pub fn take<K: Sink>(&mut self, bytes: &[u8], out: &mut K) -> Result<(), Stop>
+        requires idle { IsIdle self.old }
+        requires held { (tail : List ℕ) × Holds self.old.cutter tail }
+        requires versions { HasVersions self.old.workspace (length bytes.now) }
+        ensures ok { (tail : List ℕ) → Holds self.old.cutter tail →
+            OnOk result (AnswersLines self.old self.new (K.written out.old) (K.written out.new) tail bytes.now) }
+        ensures err { (tail : List ℕ) → Holds self.old.cutter tail →
+            OnErr result (AppendsPrefix (K.written out.old) (K.written out.new)
+            (replies self.old.workspace (cut_on tail bytes.now).whole)) }
+        ensures cause { HasStopCause (K.faults out.old) (K.faults out.new) result }
+    {
+        let mut rest = bytes;
+        while !rest.is_empty() {
+            let taken = self.take_line(rest, out)?;
+            rest = &rest[taken..];
+        }
+        self.pending.flush(out)
     }
-}
 
-/// Refuses the bytes after the last line feed, if there are any, and writes all that is pending.
-fn answer_unended<K: Sink>(rest: &[u8], pending: &mut Outbox, out: &mut K) -> Result<(), Stop>
-    ensures ok { OnOk result (Appends (K.written out.old) (K.written out.new) (pending.old ++ unended_reply rest.now)) }
-    ensures err { OnErr result (AppendsPrefix (K.written out.old) (K.written out.new)
-        (pending.old ++ unended_reply rest.now)) }
-    ensures cause { HasStopCause (K.faults out.old) (K.faults out.new) result }
-{
-    pending.add(unended_text(rest), out)?;
-    pending.flush(out)
-}
-
-/// Answers each line of a script, in order, and writes the replies.
-pub fn answer_script<K: Sink>(alloc: Global, script: &[u8], out: &mut K) -> Result<(), Stop>
-    ensures ok { OnOk result (Appends (K.written out.old) (K.written out.new) (output_of script.now)) }
-    ensures err { OnErr result (AppendsPrefix (K.written out.old) (K.written out.new) (output_of script.now)) }
-    ensures cause { HasStopCause (K.faults out.old) (K.faults out.new) result }
-{
-    let mut workspace = Workspace::new(alloc);
-    let mut pending = Outbox::new(alloc);
-    let mut rest = script;
-    while let Some((line, after)) = next_line(rest) {
-        answer_line(alloc, line, &mut workspace, &mut pending, out)?;
-        rest = after;
+    /// Takes the bytes up to the end of the line, or all where there is none, and answers the line that they end. The
+    /// reply is pending. Says how many bytes were taken.
+    fn take_line<K: Sink>(&mut self, bytes: &[u8], out: &mut K) -> Result<usize, Stop>
+        requires unended { self.old.cutter.ended ≡ false }
+        requires held { (tail : List ℕ) × Holds self.old.cutter tail }
+        requires some { 1 ≤ length bytes.now }
+        requires versions { HasVersions self.old.workspace 1 }
+        ensures some { IfOk result (λ n. (1 ≤ n) × (n ≤ length bytes.now)) }
+        ensures unended { OnOk result (self.new.cutter.ended ≡ false) }
+        ensures versions { OnOk result (self.new.workspace.work.drawn ≤ self.old.workspace.work.drawn + 1) }
+        ensures ok { (tail : List ℕ) → Holds self.old.cutter tail → IfOk result (λ n.
+            AnswersPiece self.old self.new (K.written out.old) (K.written out.new) tail (take n bytes.now)) }
+        ensures err { (tail : List ℕ) → Holds self.old.cutter tail →
+            OnErr result (AppendsPrefix (K.written out.old) (K.written out.new)
+            (self.old.pending ++ replies self.old.workspace (cut_on tail bytes.now).whole)) }
+        ensures cause { HasStopCause (K.faults out.old) (K.faults out.new) result }
+    {
+        let fed = self.cutter.feed(bytes);
+        if !fed.line {
+            return Ok(fed.taken);
+        }
+        self.answer(out)?;
+        Ok(fed.taken)
     }
-    answer_unended(rest, &mut pending, out)
+
+    /// Answers the last line, where no line feed ends it, and writes the reply.
+    pub fn end<K: Sink>(&mut self, out: &mut K) -> Result<(), Stop>
+        requires idle { IsIdle self.old }
+        requires versions { HasVersions self.old.workspace 1 }
+        ensures ok { (tail : List ℕ) → Holds self.old.cutter tail →
+            OnOk result (Appends (K.written out.old) (K.written out.new)
+            (replies self.old.workspace (last_line tail))) }
+        ensures err { (tail : List ℕ) → Holds self.old.cutter tail →
+            OnErr result (AppendsPrefix (K.written out.old) (K.written out.new)
+            (replies self.old.workspace (last_line tail))) }
+        ensures cause { HasStopCause (K.faults out.old) (K.faults out.new) result }
+    {
+        if self.cutter.empty() {
+            return Ok(());
+        }
+        self.answer(out)?;
+        self.pending.flush(out)
+    }
+
+    /// Answers the line that was taken, and begins a new one. The reply is pending.
+    fn answer<K: Sink>(&mut self, out: &mut K) -> Result<(), Stop>
+        requires { HasVersions self.old.workspace 1 }
+        ensures ok { (line : List ℕ) → Holds self.old.cutter line →
+            OnOk result (AppendsBut (K.written out.old) (K.written out.new) self.new.pending
+            (self.old.pending ++ line_reply self.old.workspace (trimmed line))) }
+        ensures next { (line : List ℕ) → Holds self.old.cutter line →
+            OnOk result (self.new.workspace ≡ next (trimmed line) self.old.workspace) }
+        ensures begun { OnOk result (self.new.cutter ≡ nothing_taken) }
+        ensures err { (line : List ℕ) → Holds self.old.cutter line →
+            OnErr result (AppendsPrefix (K.written out.old) (K.written out.new)
+            (self.old.pending ++ line_reply self.old.workspace (trimmed line))) }
+        ensures cause { HasStopCause (K.faults out.old) (K.faults out.new) result }
+    {
+        let reply = self.reply()?;
+        self.cutter.next();
+        match reply {
+            None => Ok(()),
+            Some(reply) => add_reply(self.alloc, &reply, &self.workspace, &mut self.pending, out),
+        }
+    }
+
+    /// The reply to the line that was taken; the workspace is that after it.
+    fn reply(&mut self) -> Result<Option<Reply>, Memory>
+        requires { HasVersions self.old.workspace 1 }
+        ensures reply { (line : List ℕ) → Holds self.old.cutter line →
+            IfOk result (λ r. option_map told r ≡ reply_to (trimmed line) self.old.workspace) }
+        ensures next { (line : List ℕ) → Holds self.old.cutter line →
+            IfOk result (λ r. self.new.workspace ≡ next (trimmed line) self.old.workspace) }
+        ensures cutter { self.new.cutter ≡ self.old.cutter }
+        ensures pending { self.new.pending ≡ self.old.pending }
+    {
+        match self.cutter.line() {
+            LineBytes::Bytes(line) => self.workspace.answer(line),
+            LineBytes::Long => Ok(Some(Reply::Refused(Cause::Line))),
+        }
+    }
 }

@@ -5,6 +5,7 @@ ghost use Rattle.std.specs.Prelude.{◌<◌};
 use crate::status::Status;
 use crate::top::run;
 use eir_io::{MemSink, MemSource, SureShelf, SureSink, SureSource};
+use itoa::Buffer;
 use std::alloc::Global;
 use std::test::Fail;
 
@@ -88,8 +89,34 @@ new e2\nput e2 Emp(bob,it)\nput e2 Emp(cy,it)\nput e2 Works(bob,it)\nfit\n",
         ),
         (MISSING_TARGET, MISSING_TARGET_REPLIES),
         (
-            "\nfit \nfit",
-            "refused 1 line\nrefused 1 line\nrefused 1 line\n",
+            "source R(a)\ntarget T(a)\nnew e1\nput e1 R(a)\nnew e2\nput e2 R(b)\nput e2 T(b)\nfit\n\
+drop e1\nfit\nfit\nundo\nfit\n",
+            "ok\nok\nok\nok\nok\nok\nok\nrefuted e2 e1 b->a\nok\nfits glav 1\nR(x1) -> T(x1)\n\
+fits glav 1\nR(x1) -> T(x1)\nok\nrefuted e2 e1 b->a\n",
+        ),
+        (
+            "source Emp(name,dept)\ntarget Works(name,dept)\nnew e1\nput e1 Emq(ann,hr)\nput e1 Emp(ann,hr,x)\n\
+put e1 Emp(?x,hr)\nput e2 Emp(ann,hr)\nput e1 Emp(ann,hr)\nput e1 Emp(ann,hr)\ncut e1 Emp(bob,hr)\n\
+cut e1 Emp(ann,hr)\nnew e1\nsource Works(a)\nput e1\nbudget 0\nundo\nundo\nundo\nundo\n",
+            "ok\nok\nok\nrefused 3 relation\nrefused 4 arity\nrefused 5 null\nrefused 6 example\nok\n\
+refused 7 there\nrefused 8 missing\nok\nrefused 2 taken\nrefused 2 taken\nrefused 1 line\nrefused 1 line\n\
+ok\nok\nok\nrefused 10 nothing\n",
+        ),
+        (
+            "fit\r\nfit\r\r\n\r\n \t \n  # put\n\t fit \t\nfit\r",
+            "fits glav 0\nrefused 1 line\nfits glav 0\nfits glav 0\n",
+        ),
+        (
+            "kind glav\nbudget 7\ntries\nreduce\nchase e1\ncert f\ntable R f\nexchange\ntake ann e1\nFit\n",
+            "refused 1 line\nrefused 1 line\nrefused 1 line\nrefused 1 line\nrefused 1 line\n\
+refused 1 line\nrefused 1 line\nrefused 1 line\nrefused 1 line\nrefused 1 line\n",
+        ),
+        // Each refusal in front of each later one.
+        (
+            "source R(a)\ntarget T(a,b)\nput e1 S(?x)\nput e1 R(?x,?y)\nput e1 R(?x)\nput e1 R(x)\ncut e1 S(?x)\n\
+cut e1 R(?x,?y)\ncut e1 R(?x)\ncut e1 R(x)\ndrop e1\nsource R(a,a)\nsource Q(a,a)\n",
+            "ok\nok\nrefused 3 relation\nrefused 4 arity\nrefused 5 null\nrefused 6 example\nrefused 3 relation\n\
+refused 4 arity\nrefused 5 null\nrefused 6 example\nrefused 6 example\nrefused 2 taken\nrefused 2 taken\n",
         ),
     ];
     for (script, wanted) in rows {
@@ -135,13 +162,16 @@ fn pieces_do_not_matter(rt: HostRuntime) -> Result<(), Fail> {
     Ok(())
 }
 
-/// An answer that changes in place of the fault, at a read that fails or at the next.
+/// A line that is answered though its end was not read, or one that is not though it was.
 #[test]
 fn each_read_may_fail(rt: HostRuntime) -> Result<(), Fail> {
+    // The whole lines among the first 10, 20 and so on bytes.
+    let whole = [0, 0, 1, 2, 3, 5, 5, 6, 8];
     for call in 1..100u64 {
         let (status, written) = run_in_pieces(rt.alloc(), MISSING_TARGET, 10, &[call], &[])?;
         if status == Status::Done {
             assert_eq!(rt; written.as_slice(), MISSING_TARGET_REPLIES.as_bytes());
+            assert_eq!(rt; call, 10);
             return Ok(());
         }
         assert_eq!(rt; status, Status::ReadFault, "at {call}");
@@ -149,9 +179,19 @@ fn each_read_may_fail(rt: HostRuntime) -> Result<(), Fail> {
             MISSING_TARGET_REPLIES.as_bytes().starts_with(&written),
             "at {call}"
         );
+        assert_eq!(rt;
+            lines_in(&written),
+            whole[(call - 1) as usize % 9],
+            "at {call}"
+        );
     }
     assert!(rt; false, "each read failed");
     Ok(())
+}
+
+/// The number of line feeds.
+fn lines_in(bytes: &[u8]) -> usize {
+    bytes.iter().filter(|byte| **byte == b'\n').count()
 }
 
 /// A write that is done again, or left out, after one that fails.
@@ -171,5 +211,119 @@ fn each_write_may_fail(rt: HostRuntime) -> Result<(), Fail> {
         assert_eq!(rt; written.len() as u64, call - 1, "at {call}");
     }
     assert!(rt; false, "each write failed");
+    Ok(())
+}
+
+/// Runs a script of any bytes over streams that never fail.
+fn answers(alloc: Global, script: &[u8]) -> Result<(Status, Vec<u8>), Fail> {
+    let words = words(alloc, &["edit"])?;
+    let mut input = SureSource::new(script.to_vec(alloc)?);
+    let mut out = SureSink::new(alloc);
+    let mut shelf = SureShelf::new(alloc);
+    let status = run(alloc, &words, &mut input, &mut out, &mut shelf);
+    Ok((status, out.written().to_vec(alloc)?))
+}
+
+/// Whether a line, said of so many names in turn, is accepted each time, and refused so of one name more.
+fn has_limit(
+    alloc: Global,
+    before: &str,
+    start: &str,
+    end: &str,
+    limit: u16,
+    refusal: &str,
+) -> Result<bool, Fail> {
+    let mut script = before.as_bytes().to_vec(alloc)?;
+    let mut wanted = Vec::new(alloc);
+    for _line in 0..lines_in(before.as_bytes()) {
+        wanted.extend_from_slice(b"ok\n")?;
+    }
+    let mut buffer = Buffer::new();
+    let limit = limit as usize;
+    for number in 0..limit + 1 {
+        script.extend_from_slice(start.as_bytes())?;
+        script.extend_from_slice(buffer.format(number).as_bytes())?;
+        script.extend_from_slice(end.as_bytes())?;
+        if number < limit {
+            wanted.extend_from_slice(b"ok\n")?;
+        }
+    }
+    wanted.extend_from_slice(refusal.as_bytes())?;
+    let (status, written) = answers(alloc, &script)?;
+    Ok(status == Status::Done && written.as_slice() == wanted.as_slice())
+}
+
+/// A limit that is off by one, and the text of its refusal.
+#[test]
+fn limits_are_met(rt: HostRuntime) -> Result<(), Fail> {
+    let rows = [
+        ("", "source s", "(a)\n", 64, "refused 9 full 64\n"),
+        (
+            "source R(a)\n",
+            "target s",
+            "(a)\n",
+            64,
+            "refused 9 full 64\n",
+        ),
+        ("", "new e", "\n", 64, "refused 9 full 64\n"),
+        (
+            "source R(a)\nnew e\n",
+            "put e R(",
+            ")\n",
+            512,
+            "refused 9 full 512\n",
+        ),
+    ];
+    for (before, start, end, limit, refusal) in rows {
+        let met = has_limit(rt.alloc(), before, start, end, limit, refusal)?;
+        assert!(rt; met, "at {start}");
+    }
+    Ok(())
+}
+
+/// A column too many, and the 33rd undo.
+#[test]
+fn columns_and_undos_have_limits(rt: HostRuntime) -> Result<(), Fail> {
+    let (_, columns) = replies(
+        rt.alloc(),
+        &["edit"],
+        "source A(a,b,c,d,e,f,g,h,i,j,k,l,m,n,o,p)\nsource B(a,b,c,d,e,f,g,h,i,j,k,l,m,n,o,p,q)\n",
+    )?;
+    assert_eq!(rt; columns.as_slice(), b"ok\nrefused 9 full 16\n".as_slice());
+    let mut script = Vec::new(rt.alloc());
+    let mut wanted = Vec::new(rt.alloc());
+    for _edit in 0..20 {
+        script.extend_from_slice(b"new e\ndrop e\n")?;
+        wanted.extend_from_slice(b"ok\nok\n")?;
+    }
+    for _undo in 0..32 {
+        script.extend_from_slice(b"undo\n")?;
+        wanted.extend_from_slice(b"ok\n")?;
+    }
+    script.extend_from_slice(b"undo\n")?;
+    wanted.extend_from_slice(b"refused 10 nothing\n")?;
+    let (_, written) = answers(rt.alloc(), &script)?;
+    assert_eq!(rt; written.as_slice(), wanted.as_slice());
+    Ok(())
+}
+
+/// A line that is read though it is one byte too long, or one that is not though its end alone makes it so.
+#[test]
+fn long_lines_are_refused(rt: HostRuntime) -> Result<(), Fail> {
+    let rows = [
+        (4093, "\r\n", "fits glav 0\n"),
+        (4094, "\r\n", "refused 1 line\n"),
+        (4093, "", "fits glav 0\n"),
+        (4094, "\r", "refused 1 line\n"),
+    ];
+    for (spaces, end, wanted) in rows {
+        let mut script = b"fit".as_slice().to_vec(rt.alloc())?;
+        for _space in 0..spaces {
+            script.push(b' ')?;
+        }
+        script.extend_from_slice(end.as_bytes())?;
+        let (_, written) = answers(rt.alloc(), &script)?;
+        assert_eq!(rt; written.as_slice(), wanted.as_bytes(), "at {spaces}");
+    }
     Ok(())
 }

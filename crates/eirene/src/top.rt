@@ -1,14 +1,11 @@
 //! The top call.
-ghost use Rattle.std.specs.Prelude.{◌≡◌, ◌≢◌, ◌↔◌, ◌⊎◌, ◌<◌, ◌≤◌, [], ◌∷◌, map, length, codes, string_bytes, IfSome, IsTrue};
-ghost use Rattle.std.specs.Io.KnownBytes.{Keeps};
+ghost use Rattle.std.specs.Prelude.{◌≡◌, ◌≢◌, ◌↔◌, ◌≤◌, [], ◌∷◌, map, codes, string_bytes, IsTrue};
 ghost use Rattle.eir_io.specs.Causes.{Rose};
-ghost use Rattle.eir_io.specs.Files.{KeepsFiles};
 ghost use Rattle.eirene.specs.Promise.{AnswersAll};
-ghost use Rattle.eirene.specs.Outcomes.{StopsWithin};
-ghost use Rattle.eirene.specs.Statuses.{status_of_read, status_of_write};
+ghost use Rattle.eirene.specs.Outcomes.{AnswersWhole, AnswersWithin, StopsWithin};
+ghost use Rattle.eirene.specs.Statuses.{status_of};
 
-use crate::input::{INPUT_LIMIT, ReadStop, read_all};
-use crate::script::answer_script;
+use crate::input::{INPUT_LIMIT, InputStop, answer_input};
 use crate::status::Status;
 use eir_io::{Shelf, Sink, Source, Stop};
 use std::alloc::Global;
@@ -23,30 +20,21 @@ fn is_edit(words: &[String]) -> bool
     }
 }
 
-/// The status of an input that was not read to its end.
-fn read_status(stop: ReadStop) -> Status
-    ensures { result ≡ status_of_read stop }
+/// The status of a run whose input was not answered to its end.
+fn stop_status(stop: InputStop) -> Status
+    ensures { result ≡ status_of stop }
 {
     match stop {
-        ReadStop::Fault => Status::ReadFault,
-        ReadStop::TooLong => Status::InputTooLong,
-        ReadStop::Memory => Status::Memory,
-    }
-}
-
-/// The status of replies that were not all written.
-fn write_status(stop: Stop) -> Status
-    ensures { result ≡ status_of_write stop }
-{
-    match stop {
-        Stop::Failed => Status::WriteFault,
-        Stop::Memory => Status::Memory,
+        InputStop::Fault => Status::ReadFault,
+        InputStop::TooLong => Status::InputTooLong,
+        InputStop::Reply(Stop::Failed) => Status::WriteFault,
+        InputStop::Reply(Stop::Memory) => Status::Memory,
     }
 }
 
 /// Runs the command that the words name: `edit` reads a script from the input, which may have 16,777,216 bytes, and
-/// writes its replies. The words are those after the program's name. The run ends at the first stop; the input is
-/// read to its end before the first reply is written.
+/// writes its replies. The words are those after the program's name. Before the source is asked again, each whole line
+/// that was read is answered and its reply is written. The run ends at the first stop.
 pub fn run<S: Source, K: Sink, F: Shelf>(
     alloc: Global,
     words: &[String],
@@ -62,18 +50,19 @@ pub fn run<S: Source, K: Sink, F: Shelf>(
     ensures done { result ≡ Status.Done
         → AnswersAll (S.left input.old) (S.left input.new) (K.written out.old) (K.written out.new) INPUT_LIMIT }
 
-    // Nothing was written, and the source's count of faults rose, or the input is longer than the limit.
+    // The source's count of faults rose, and exactly the whole lines that were read are answered.
     ensures read { result ≡ Status.ReadFault → Rose (S.faults input.old) (S.faults input.new)
-        × Keeps (K.written out.old) (K.written out.new) }
+        × AnswersWhole (S.left input.old) (S.left input.new) (K.written out.old) (K.written out.new) INPUT_LIMIT }
+
+    // The input is longer than the limit, and exactly the whole lines within the limit are answered.
     ensures too_long { result ≡ Status.InputTooLong
-        → IfSome (S.left input.old) (λ bytes. INPUT_LIMIT < length bytes)
-        × Keeps (K.written out.old) (K.written out.new) }
+        → AnswersWithin (S.left input.old) (S.left input.new) (K.written out.old) (K.written out.new) INPUT_LIMIT }
 
     // A prefix of the bytes of the replies was written, and the sink's count of faults rose, or there was no memory.
     ensures write { result ≡ Status.WriteFault → Rose (K.faults out.old) (K.faults out.new)
         × StopsWithin (S.left input.old) (S.left input.new) (K.written out.old) (K.written out.new) INPUT_LIMIT }
-    ensures memory { result ≡ Status.Memory → Keeps (K.written out.old) (K.written out.new)
-        ⊎ StopsWithin (S.left input.old) (S.left input.new) (K.written out.old) (K.written out.new) INPUT_LIMIT }
+    ensures memory { result ≡ Status.Memory
+        → StopsWithin (S.left input.old) (S.left input.new) (K.written out.old) (K.written out.new) INPUT_LIMIT }
 
     // No other status comes, counts of faults never fall, and the shelf is not called.
     ensures served { (result ≢ Status.CheckNo) × (result ≢ Status.ShelfFault) }
@@ -84,11 +73,8 @@ pub fn run<S: Source, K: Sink, F: Shelf>(
     if !is_edit(words) {
         return Status::BadWords;
     }
-    match read_all(alloc, input) {
-        Err(stop) => read_status(stop),
-        Ok(script) => match answer_script(alloc, &script, out) {
-            Err(stop) => write_status(stop),
-            Ok(()) => Status::Done,
-        },
+    match answer_input(alloc, input, out) {
+        Ok(()) => Status::Done,
+        Err(stop) => stop_status(stop),
     }
 }

@@ -1,9 +1,10 @@
 //! The verdict on the present examples.
-ghost use Rattle.std.specs.Prelude.{◌≡◌, ◌<◌, IfOk, option_map, map};
+ghost use Rattle.std.specs.Prelude.{◌≡◌, ◌<◌, IfOk, option_map};
 ghost use Rattle.eir_term.specs.declared.val.Kind.TheVariants.{Glav};
 ghost use Rattle.eir_term.specs.Verdicts.{first_finding, first_refuting, refuted, domain_finding, refuted_finding, verdict};
 ghost use Rattle.eirene.specs.Findings.{finding_of};
-ghost use Rattle.eirene.specs.Workspaces.{data_example};
+ghost use Rattle.eir_term.specs.Headline.{AllSources};
+ghost use Rattle.eirene.specs.Lent.{pairs_of};
 
 mod first_example;
 mod foreign;
@@ -12,13 +13,15 @@ mod refuting;
 use self::first_example::FirstExample;
 use self::foreign::first_foreign;
 use self::refuting::first_refuting;
-use crate::canonical::{Dep, canonical_mapping};
+use crate::canonical::canonical_mapping;
 use crate::data_example::DataExample;
-use crate::examples::Examples;
+use eir_dep::Mapping;
+use eir_edit::Example;
 use eir_search::Steps;
 use eir_term::{Map, Memory};
 use std::alloc::Global;
 use std::marker::Brand;
+use std::rc::Rc;
 use std::sync::ledger::{Blank, Ledger};
 
 /// What a fit finds; places of examples count from 0.
@@ -36,12 +39,13 @@ pub enum Verdict {
         map: Map,
     },
     /// The canonical mapping fits.
-    Fits(Vec<Dep>),
+    Fits(Mapping),
 }
 
 /// The first fault or refutation, else the canonical mapping.
-pub fn verdict_on(alloc: Global, examples: &Examples) -> Result<Verdict, Memory>
-    ensures { IfOk result (λ v. finding_of v ≡ verdict Glav (map data_example examples.now)) }
+pub fn verdict_on(alloc: Global, examples: &[Rc<Example>]) -> Result<Verdict, Memory>
+    requires { AllSources (pairs_of examples.now) }
+    ensures { IfOk result (λ v. finding_of v ≡ verdict Glav (pairs_of examples.now)) }
 {
     if let Some(found) = domain_finding(examples) {
         return Ok(found);
@@ -54,8 +58,8 @@ pub fn verdict_on(alloc: Global, examples: &Examples) -> Result<Verdict, Memory>
 }
 
 /// The first example with a foreign constant, and the first such constant.
-fn domain_finding(examples: &Examples) -> Option<Verdict>
-    ensures { option_map finding_of result ≡ domain_finding (map data_example examples.now) }
+fn domain_finding(examples: &[Rc<Example>]) -> Option<Verdict>
+    ensures { option_map finding_of result ≡ domain_finding (pairs_of examples.now) }
 {
     for place in 0..examples.len() {
         let example = DataExample::at(examples, place);
@@ -71,8 +75,8 @@ fn domain_finding(examples: &Examples) -> Option<Verdict>
 
 /// The first pair of examples with a refuting homomorphism, and the first such one. An example is paired with itself
 /// too.
-fn refuted_finding(alloc: Global, examples: &Examples) -> Result<Option<Verdict>, Memory>
-    ensures { IfOk result (λ o. option_map finding_of o ≡ refuted_finding (map data_example examples.now)) }
+fn refuted_finding(alloc: Global, examples: &[Rc<Example>]) -> Result<Option<Verdict>, Memory>
+    ensures { IfOk result (λ o. option_map finding_of o ≡ refuted_finding (pairs_of examples.now)) }
 {
     first_refuted::<Brand>(alloc, examples, Blank::new(1))
 }
@@ -80,13 +84,13 @@ fn refuted_finding(alloc: Global, examples: &Examples) -> Result<Option<Verdict>
 /// The same, with a count of the tries.
 fn first_refuted<L: Ledger>(
     alloc: Global,
-    examples: &Examples,
+    examples: &[Rc<Example>],
     blank: Blank,
 ) -> Result<Option<Verdict>, Memory>
     requires name { blank.name ≡ L.name }
     requires parts { blank.parts ≡ L.parts }
     requires some { 0 < blank.parts }
-    ensures { IfOk result (λ o. option_map finding_of o ≡ refuted_finding (map data_example examples.now)) }
+    ensures { IfOk result (λ o. option_map finding_of o ≡ refuted_finding (pairs_of examples.now)) }
 {
     let mut steps = Steps::<L>::open(blank);
     for place in 0..examples.len() {
@@ -102,14 +106,14 @@ fn first_refuted<L: Ledger>(
 /// The first refuting homomorphism from this example, which stands at this place.
 fn refuted_from<L: Ledger>(
     alloc: Global,
-    examples: &Examples,
+    examples: &[Rc<Example>],
     place: usize,
     first: &FirstExample,
     steps: &mut Steps<L>,
 ) -> Result<Option<Verdict>, Memory>
     ensures { IfOk result (λ o. option_map finding_of o ≡
         first_finding (λ j f. option_map (refuted place j) (first_refuting first.now f)) 0
-        (map data_example examples.now)) }
+        (pairs_of examples.now)) }
 {
     for other in 0..examples.len() {
         let second = DataExample::at(examples, other);

@@ -1,35 +1,51 @@
-//! The state of a workspace.
-ghost use Rattle.std.specs.Prelude.{◌≡◌, None, IfErr, OnOk, OnErr};
+//! The state of a run.
+ghost use Rattle.std.specs.Prelude.{◌≡◌, ◌≤◌, false, None, Some, IfErr, IfOk, OnOk, OnErr, length, option_map};
 ghost use Rattle.std.specs.List.{list_any};
 ghost use Rattle.eir_term.specs.Values.{is_null};
-ghost use Rattle.eirene.specs.Workspaces.{done, empty_workspace, is_null_in_source, refusal};
-ghost use Rattle.eirene.specs.Causes.{IsCaused};
-ghost use Rattle.eirene.specs.Commands.{request_of};
-ghost use Rattle.eirene.specs.FilledRequests.{IsFilledRequest};
+ghost use Rattle.eir_schema.specs.Schemas.{find_relation};
+ghost use Rattle.eir_edit.specs.Causes.{first_cause};
+ghost use Rattle.eir_edit.specs.Edits.{is_null_in_source};
+ghost use Rattle.eir_edit.specs.State as state;
+ghost use Rattle.eir_edit.specs.State.{fact_of, fact_tests, relation_of};
+ghost use Rattle.eirene.specs.Workspaces.{empty_workspace};
+ghost use Rattle.eirene.specs.Replies.{Request, answer, accepted, act, after, given, next, reply_to, request_of};
+ghost use Rattle.eirene.specs.Findings.{told};
+ghost use Rattle.eirene.specs.Refusals.{IsCaused, IsFilledCommand, IsRefused};
+ghost use Rattle.eirene.specs.Versions.{HasVersions};
 
-use crate::command::{Command, RawFact};
-use crate::examples::Examples;
-use crate::names::Names;
 use crate::refusal::{Cause, Refusal};
-use crate::schema::Schema;
-use eir_term::{Fact, Side, Text, Val};
+use crate::reply::Reply;
+use crate::verdict::verdict_on;
+use eir_edit::{Examples, Versions};
+use eir_schema::{Names, Schema};
+use eir_script::{Command, LineRefused, RawFact, read_line};
+use eir_term::{Fact, Memory, Side, Text, Val};
 use std::alloc::Global;
 use std::marker::Model;
 
-/// The table of names, the schema and the present examples.
+/// The table of names, the schema, the examples with their undo list, and the number of versions drawn.
 #[derive(Drop)]
 pub struct Workspace {
+    alloc: Global,
     pub names: Names,
     pub schema: Schema,
     pub examples: Examples,
+    versions: Versions,
 }
 
 impl Model for Workspace {
-    ghost use Rattle.eirene.specs.Workspaces.{Workspace as State};
+    ghost use Rattle.eir_term.specs.declared.val.Kind.TheVariants.{Glav};
+    ghost use Rattle.eirene.specs.Workspaces.{Workspace as State, first_budget};
 
     ghost Value = { State };
 
-    ghost view = { λ w. record { names = w.names; schema = w.schema; examples = w.examples } };
+    ghost view = { λ w. record {
+      names = w.names;
+      work = record {
+        drawn = w.versions;
+        desk = record { schema = w.schema; history = w.examples; kind = Glav; budget = first_budget; limit = 512 };
+      };
+    } };
 }
 
 impl Workspace {
@@ -38,47 +54,165 @@ impl Workspace {
         ensures { result ≡ empty_workspace }
     {
         Workspace {
+            alloc,
             names: Names::new(alloc),
             schema: Schema::new(alloc),
             examples: Examples::new(alloc),
+            versions: Versions::new(),
         }
     }
 
-    /// Does what the command asks, or refuses it for the first cause that holds. A fit changes nothing.
-    pub fn apply(&mut self, alloc: Global, command: &Command) -> Result<(), Refusal>
-        requires { IsFilledRequest (request_of command.now) }
-        ensures ok { OnOk result ((refusal (request_of command.now) self.old ≡ None)
-            × (self.new ≡ done (request_of command.now) self.old)) }
-        ensures caused { IfErr result (λ e. IsCaused e (refusal (request_of command.now) self.old)) }
+    /// Answers a line. A blank one has no reply.
+    pub fn answer(&mut self, line: &[u8]) -> Result<Option<Reply>, Memory>
+        requires { HasVersions self.old 1 }
+        ensures { IfOk result (λ r. (option_map told r ≡ reply_to line.now self.old)
+            × (self.new ≡ next line.now self.old)) }
+    {
+        match read_line(self.alloc, line, &mut self.names) {
+            Ok(Command::Blank) => Ok(None),
+            Ok(command) => Ok(Some(self.perform(&command)?)),
+            Err(LineRefused::Bad) => Ok(Some(Reply::Refused(Cause::Line))),
+            Err(LineRefused::Memory) => Err(Memory),
+        }
+    }
+
+    /// Does what a command asks, or refuses it.
+    fn perform(&mut self, command: &Command) -> Result<Reply, Memory>
+        requires versions { HasVersions self.old 1 }
+        requires filled { IsFilledCommand command.now }
+        ensures { IfOk result (λ r. (told r ≡ answer (request_of command.now) self.old)
+            × (self.new ≡ after (request_of command.now) self.old)) }
+    {
+        match command {
+            Command::Fit => Ok(Reply::Found(verdict_on(self.alloc, self.examples.list())?)),
+            _ => match self.apply(command) {
+                Ok(()) => Ok(Reply::Accepted),
+                Err(Refusal::For(cause)) => Ok(Reply::Refused(cause)),
+                Err(Refusal::Memory) => Err(Memory),
+            },
+        }
+    }
+
+    /// Does what a command other than a fit asks, or refuses it for the first cause that holds.
+    fn apply(&mut self, command: &Command) -> Result<(), Refusal>
+        requires versions { HasVersions self.old 1 }
+        requires filled { IsFilledCommand command.now }
+        requires other { command.now ≡ Command.Fit → ⊥ }
+        ensures ok { OnOk result ((answer (request_of command.now) self.old ≡ accepted)
+            × (self.new ≡ after (request_of command.now) self.old)) }
+        ensures refused { IfErr result (λ e. IsRefused e (request_of command.now) self.old) }
         ensures err { OnErr result (self.new ≡ self.old) }
     {
         match command {
-            Command::Declare(side, name, columns) => self.schema.declare(*side, name, columns),
-            Command::New(name) => self.examples.add(name),
-            Command::Put(name, fact) => self.put(alloc, name, fact),
-            Command::Fit => Ok(()),
+            Command::Declare(side, name, columns) => self.declare(*side, name, columns.as_slice()),
+            Command::New(name) => self.add(name),
+            Command::Put(name, raw) => self.put(name, raw),
+            Command::Cut(name, raw) => self.cut(name, raw),
+            Command::Drop(name) => self.drop_one(name),
+            Command::Undo => self.undo(),
+            _ => Err(Refusal::For(Cause::Line)),
         }
     }
 
-    /// Puts a fact into the example of this name.
-    fn put(&mut self, alloc: Global, name: &Text, fact: &RawFact) -> Result<(), Refusal>
-        ensures ok { let asked = request_of (Command.Put name.now fact.now) in
-            OnOk result ((refusal asked self.old ≡ None) × (self.new ≡ done asked self.old)) }
-        ensures caused { let asked = request_of (Command.Put name.now fact.now) in
-            IfErr result (λ e. IsCaused e (refusal asked self.old)) }
+    /// Declares a relation.
+    fn declare(&mut self, side: Side, name: &Text, columns: &[Text]) -> Result<(), Refusal>
+        requires { 1 ≤ length columns.now }
+        ensures ok { let asked = Some (act (state.declare side name.now columns.now)) in
+            OnOk result ((answer asked self.old ≡ accepted) × (self.new ≡ after asked self.old)) }
+        ensures refused { let asked = Some (act (state.declare side name.now columns.now)) in
+            IfErr result (λ e. IsRefused e asked self.old) }
         ensures err { OnErr result (self.new ≡ self.old) }
     {
-        let Some(relation) = self.schema.find(&fact.relation) else {
+        self.schema.declare(side, name, columns)?;
+        Ok(())
+    }
+
+    /// Adds an example.
+    fn add(&mut self, name: &Text) -> Result<(), Refusal>
+        requires { HasVersions self.old 1 }
+        ensures ok { let asked = Some (act (state.add name.now)) in
+            OnOk result ((answer asked self.old ≡ accepted) × (self.new ≡ after asked self.old)) }
+        ensures refused { let asked = Some (act (state.add name.now)) in
+            IfErr result (λ e. IsRefused e asked self.old) }
+        ensures err { OnErr result (self.new ≡ self.old) }
+    {
+        self.examples.add(&mut self.versions, name)?;
+        Ok(())
+    }
+
+    /// Puts a fact into the example of this name.
+    fn put(&mut self, name: &Text, raw: &RawFact) -> Result<(), Refusal>
+        requires { HasVersions self.old 1 }
+        ensures ok { let asked = Some (act (state.put name.now (given raw.now))) in
+            OnOk result ((answer asked self.old ≡ accepted) × (self.new ≡ after asked self.old)) }
+        ensures refused { let asked = Some (act (state.put name.now (given raw.now))) in
+            IfErr result (λ e. IsRefused e asked self.old) }
+        ensures err { OnErr result (self.new ≡ self.old) }
+    {
+        let (side, fact) = self.fact(raw)?;
+        self.examples.put(&mut self.versions, name, side, fact)?;
+        Ok(())
+    }
+
+    /// Takes a fact out of the example of this name.
+    fn cut(&mut self, name: &Text, raw: &RawFact) -> Result<(), Refusal>
+        requires { HasVersions self.old 1 }
+        ensures ok { let asked = Some (act (state.cut name.now (given raw.now))) in
+            OnOk result ((answer asked self.old ≡ accepted) × (self.new ≡ after asked self.old)) }
+        ensures refused { let asked = Some (act (state.cut name.now (given raw.now))) in
+            IfErr result (λ e. IsRefused e asked self.old) }
+        ensures err { OnErr result (self.new ≡ self.old) }
+    {
+        let (side, fact) = self.fact(raw)?;
+        self.examples.cut(&mut self.versions, name, side, &fact)?;
+        Ok(())
+    }
+
+    /// Drops an example.
+    fn drop_one(&mut self, name: &Text) -> Result<(), Refusal>
+        ensures ok { let asked = Some (act (state.drop name.now)) in
+            OnOk result ((answer asked self.old ≡ accepted) × (self.new ≡ after asked self.old)) }
+        ensures refused { let asked = Some (act (state.drop name.now)) in
+            IfErr result (λ e. IsRefused e asked self.old) }
+        ensures err { OnErr result (self.new ≡ self.old) }
+    {
+        self.examples.drop_one(name)?;
+        Ok(())
+    }
+
+    /// Undoes the last edit that is not yet undone.
+    fn undo(&mut self) -> Result<(), Refusal>
+        ensures ok { let asked = Some (act state.undo_last) in
+            OnOk result ((answer asked self.old ≡ accepted) × (self.new ≡ after asked self.old)) }
+        ensures refused { IfErr result (λ e. IsRefused e (Some (act state.undo_last)) self.old) }
+        ensures err { OnErr result (self.new ≡ self.old) }
+    {
+        self.examples.undo()?;
+        Ok(())
+    }
+
+    /// The fact that is written, with the side of its relation. It is refused where there is no such relation, for
+    /// another number of arguments, and for a null in a source fact, in this order.
+    fn fact(&self, raw: &RawFact) -> Result<(Side, Fact), Refusal>
+        ensures ok { IfOk result (λ r. (first_cause (fact_tests (given raw.now) self.now.work.desk.schema) ≡ None)
+            × (r.0 ≡ (relation_of (given raw.now) self.now.work.desk.schema).side)
+            × (r.1 ≡ fact_of (given raw.now) self.now.work.desk.schema)
+            × (is_null_in_source r.0 r.1.args ≡ false)) }
+        ensures refused { IfErr result
+            (λ e. IsCaused e (first_cause (fact_tests (given raw.now) self.now.work.desk.schema))) }
+    {
+        let Some(relation) = self.schema.find(&raw.relation) else {
             return Err(Refusal::For(Cause::Relation));
         };
-        if fact.args.len() != relation.arity as usize {
+        let values = raw.args.as_slice();
+        if values.len() != relation.arity as usize {
             return Err(Refusal::For(Cause::Arity));
         }
-        if is_null_in_source(relation.side, &fact.args) {
+        if is_null_in_source(relation.side, values) {
             return Err(Refusal::For(Cause::Null));
         }
-        let fact = Fact::make(alloc, relation.number, &fact.args)?;
-        self.examples.put(name, relation.side, fact)
+        let fact = Fact::make(self.alloc, relation.number, values)?;
+        Ok((relation.side, fact))
     }
 }
 

@@ -1,13 +1,11 @@
 //! The texts of dependencies.
 ghost use Rattle.std.specs.Prelude.{◌≡◌, ◌++◌, OnOk, map};
 ghost use Rattle.std.specs.List.{join_with_byte};
-ghost use Rattle.eirene.specs.Findings.{dependency_of};
-ghost use Rattle.eirene.specs.Schemas.{relation_text};
-ghost use Rattle.eirene.specs.Texts.{term_text, atom_text, atoms_text, premise_text, exists_text, existential_variables, dependency_text};
+ghost use Rattle.eirene.specs.Texts.{relation_text, term_text, atom_text, atoms_text, premise_text, exists_text, existential_variables, dependency_text};
 
 use super::numbered::Numbered;
-use crate::canonical::Dep;
-use crate::schema::Schema;
+use eir_dep::Dep;
+use eir_schema::Schema;
 use eir_term::{Atom, Memory, Term, Text};
 use std::alloc::Global;
 
@@ -18,13 +16,13 @@ pub fn print_dependency(
     schema: &Schema,
     out: &mut Text,
 ) -> Result<(), Memory>
-    ensures { OnOk result (out.new ≡ out.old ++ dependency_text schema.now (dependency_of dep.now)) }
+    ensures { OnOk result (out.new ≡ out.old ++ dependency_text schema.now dep.now) }
 {
     let numbered = Numbered::new(alloc, dep)?;
-    print_premise(&numbered, schema, &dep.premise, out)?;
+    print_premise(&numbered, schema, dep.premise(), out)?;
     out.push_all(b" -> ")?;
     numbered.print_exists(out)?;
-    print_atoms(&numbered, schema, &dep.conclusion, out)
+    print_atoms(&numbered, schema, dep.conclusion(), out)
 }
 
 /// Appends the atoms of a premise, or `true` where there is none.
@@ -71,10 +69,20 @@ fn print_atom(
 ) -> Result<(), Memory>
     ensures { OnOk result (out.new ≡ out.old ++ atom_text schema.now numbered.now atom.now) }
 {
-    out.push_all(schema.name_of(atom.rel).unwrap_or(b""))?;
+    print_relation(atom.rel, schema, out)?;
     out.push_all(b"(")?;
     print_terms(numbered, atom.args.as_slice(), out)?;
     out.push_all(b")")
+}
+
+/// Appends the name of a relation.
+fn print_relation(rel: u32, schema: &Schema, out: &mut Text) -> Result<(), Memory>
+    ensures { OnOk result (out.new ≡ out.old ++ relation_text schema.now rel) }
+{
+    match schema.name_of(rel) {
+        Some(name) => out.push_all(name.bytes()),
+        None => Ok(()),
+    }
 }
 
 /// Appends the terms, with commas between them.

@@ -4,20 +4,20 @@ ghost use Rattle.eir_term.specs.declared.val.Val.TheVariants.{Const};
 ghost use Rattle.eir_term.specs.Instances.{consts};
 ghost use Rattle.eir_term.specs.Values.{is_const};
 ghost use Rattle.eir_term.specs.Verdicts.{foreign_at, refuted, fits};
-ghost use Rattle.eirene.specs.Findings.{dependency_of, finding_of};
-ghost use Rattle.eirene.specs.Names.{name_text};
-ghost use Rattle.eirene.specs.Texts.{constant_text, example_text, finding_text, mapping_text, moved_text, source_at};
+ghost use Rattle.eirene.specs.Findings.{finding_of};
+ghost use Rattle.eirene.specs.Lent.{examples_of};
+ghost use Rattle.eirene.specs.Texts.{name_text, constant_text, example_text, finding_text, dependency_line_at, mapping_text, moved_text, source_at};
 
 use super::dependency::print_dependency;
 use super::print_number;
-use crate::canonical::Dep;
-use crate::examples::Examples;
-use crate::names::Names;
-use crate::schema::Schema;
 use crate::verdict::Verdict;
 use crate::workspace::Workspace;
+use eir_dep::Mapping;
+use eir_edit::Example;
+use eir_schema::{Names, Schema};
 use eir_term::{Map, Memory, Text, Val};
 use std::alloc::Global;
+use std::rc::Rc;
 
 /// Appends what the fit found.
 pub fn print_verdict(
@@ -47,7 +47,7 @@ fn print_domain(
     ensures { OnOk result (out.new ≡ out.old ++ finding_text workspace.now (foreign_at example (Const constant))) }
 {
     out.push_all(b"domain ")?;
-    print_example(&workspace.examples, example, out)?;
+    print_example(workspace.examples.list(), example, out)?;
     out.push_all(b" ")?;
     print_constant(&workspace.names, Val::Const(constant), out)?;
     out.push_all(b"\n")
@@ -64,9 +64,9 @@ fn print_refuted(
     ensures { OnOk result (out.new ≡ out.old ++ finding_text workspace.now (refuted first second map.now)) }
 {
     out.push_all(b"refuted ")?;
-    print_example(&workspace.examples, first, out)?;
+    print_example(workspace.examples.list(), first, out)?;
     out.push_all(b" ")?;
-    print_example(&workspace.examples, second, out)?;
+    print_example(workspace.examples.list(), second, out)?;
     print_moves_at(workspace, first, map, out)?;
     out.push_all(b"\n")
 }
@@ -75,10 +75,10 @@ fn print_refuted(
 fn print_fits(
     alloc: Global,
     workspace: &Workspace,
-    mapping: &[Dep],
+    mapping: &Mapping,
     out: &mut Text,
 ) -> Result<(), Memory>
-    ensures { OnOk result (out.new ≡ out.old ++ finding_text workspace.now (fits (map dependency_of mapping.now))) }
+    ensures { OnOk result (out.new ≡ out.old ++ finding_text workspace.now (fits mapping.now)) }
 {
     out.push_all(b"fits glav ")?;
     print_number(mapping.len(), out)?;
@@ -90,16 +90,34 @@ fn print_fits(
 fn print_mapping(
     alloc: Global,
     schema: &Schema,
-    mapping: &[Dep],
+    mapping: &Mapping,
     out: &mut Text,
 ) -> Result<(), Memory>
-    ensures { OnOk result (out.new ≡ out.old ++ mapping_text schema.now (map dependency_of mapping.now)) }
+    ensures { OnOk result (out.new ≡ out.old ++ mapping_text schema.now mapping.now) }
 {
-    for dep in mapping {
-        print_dependency(alloc, dep, schema, out)?;
-        out.push_all(b"\n")?;
+    for place in 0..mapping.len() {
+        print_dependency_at(alloc, schema, mapping, place, out)?;
     }
     Ok(())
+}
+
+/// Appends the dependency at a place on a line.
+fn print_dependency_at(
+    alloc: Global,
+    schema: &Schema,
+    mapping: &Mapping,
+    place: usize,
+    out: &mut Text,
+) -> Result<(), Memory>
+    ensures { OnOk result (out.new ≡ out.old ++ dependency_line_at schema.now mapping.now place) }
+{
+    match mapping.dep(place) {
+        Some(dep) => {
+            print_dependency(alloc, dep, schema, out)?;
+            out.push_all(b"\n")
+        }
+        None => Ok(()),
+    }
 }
 
 /// Appends where the map sends the constants of the source of the example at a place.
@@ -110,10 +128,10 @@ fn print_moves_at(
     out: &mut Text,
 ) -> Result<(), Memory>
     ensures { OnOk result (out.new ≡ out.old
-        ++ flat_map (moved_text workspace.now.names map.now) (consts (source_at workspace.now.examples place))) }
+        ++ flat_map (moved_text workspace.now.names map.now) (consts (source_at workspace.now.work.desk.history.list place))) }
 {
-    match workspace.examples.source(place) {
-        Some(source) => print_moves(&workspace.names, source.values(), map, out),
+    match workspace.examples.list().get(place) {
+        Some(example) => print_moves(&workspace.names, example.source.values(), map, out),
         None => Ok(()),
     }
 }
@@ -141,10 +159,13 @@ fn print_moved(names: &Names, constant: Val, map: &Map, out: &mut Text) -> Resul
 }
 
 /// Appends the name of an example.
-fn print_example(examples: &Examples, place: usize, out: &mut Text) -> Result<(), Memory>
-    ensures { OnOk result (out.new ≡ out.old ++ example_text examples.now place) }
+fn print_example(examples: &[Rc<Example>], place: usize, out: &mut Text) -> Result<(), Memory>
+    ensures { OnOk result (out.new ≡ out.old ++ example_text (examples_of examples.now) place) }
 {
-    out.push_all(examples.name(place).unwrap_or(b""))
+    match examples.get(place) {
+        Some(example) => out.push_all(example.name.bytes()),
+        None => Ok(()),
+    }
 }
 
 /// Appends the name of a constant. A null has a question mark in front.

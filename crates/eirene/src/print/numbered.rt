@@ -3,11 +3,10 @@ ghost use Rattle.std.specs.Prelude.{◌≡◌, ◌++◌, ◌<◌, ◌^◌, IfOk,
 ghost use Rattle.indexmap.specs.IndexSet.{insert_all};
 ghost use Rattle.eir_term.specs.Lists.{distinct, place_of};
 ghost use Rattle.eir_term.specs.Dependencies.{term_vars, vars};
-ghost use Rattle.eirene.specs.Findings.{dependency_of};
 ghost use Rattle.eirene.specs.Texts.{existential_variables, exists_names, exists_text, numbered_name, variable_text};
 
 use super::print_number;
-use crate::canonical::Dep;
+use eir_dep::Dep;
 use eir_term::{Atom, Memory, Term, Text};
 use indexmap::IndexSet;
 use std::alloc::Global;
@@ -29,26 +28,25 @@ impl<'a> Model for Numbered<'a> {
     ghost use Rattle.std.specs.Prelude.{◌≡◌, nat_eq};
     ghost use Rattle.eir_term.specs.Lists.{distinct};
     ghost use Rattle.eir_term.specs.Dependencies.{Dependency};
-    ghost use Rattle.eirene.specs.Findings.{dependency_of};
     ghost use Rattle.eirene.specs.Texts.{premise_variables, existential_variables};
 
     ghost Value = { Dependency };
 
-    ghost view = { λ n. dependency_of n.dep.now };
+    ghost view = { λ n. n.dep.now };
 
-    ghost invariant = { λ n. (n.exists.keys ≡ distinct nat_eq n.dep.now.exists.items)
-        × (n.premise.keys ≡ premise_variables (dependency_of n.dep.now))
-        × (n.existential.keys ≡ existential_variables (dependency_of n.dep.now)) };
+    ghost invariant = { λ n. (n.exists.keys ≡ distinct nat_eq n.dep.now.exists)
+        × (n.premise.keys ≡ premise_variables n.dep.now)
+        × (n.existential.keys ≡ existential_variables n.dep.now) };
 }
 
 impl Numbered<'_> {
     /// The dependency with its numbers.
     pub fn new(alloc: Global, dep: &Dep) -> Result<Numbered<'_>, Memory>
-        ensures { IfOk result (λ n. n ≡ dependency_of dep.now) }
+        ensures { IfOk result (λ n. n ≡ dep.now) }
     {
-        let exists = numbers_in(alloc, &dep.exists)?;
-        let premise = variables_in(alloc, &dep.premise)?;
-        let mut existential = variables_in(alloc, &dep.conclusion)?;
+        let exists = numbers_in(alloc, dep.exists())?;
+        let premise = variables_in(alloc, dep.premise())?;
+        let mut existential = variables_in(alloc, dep.conclusion())?;
         existential.retain(|variable| exists.contains(variable));
         Ok(Numbered {
             dep,

@@ -3,4 +3,4 @@ use Rattle.eir_term.specs.Canonical.{term_of}
 use Rattle.eirene.proofs.canonical.atom_of.Given as goal
 
 abbrev pub invariant-loop-value : goal.invariant-loop-value
-invariant-loop-value l = l.terms.items ≡ map (term_of l.variables.keys) (take l.value-index l.value-items)
+invariant-loop-value l = l.terms.items ≡ map (term_of l.variables.keys) (take l.value-index l.values)

@@ -1,18 +1,9 @@
-use Rattle.std.proofs.Common.{map}
-use Rattle.eirene.specs.Workspaces.{data_example}
-use Rattle.eirene.proofs.MappingLaws.{IsBoundedAt-place, canon-more}
+use Rattle.eirene.specs.Lent.{pairs_of}
+use Rattle.eirene.proofs.MappingLaws.{IsDependency-place, canon-more}
 use Rattle.eirene.proofs.canonical.canonical_mapping.Goals as goal
 
-pub push_dependency-requires-clause-few : goal.push_dependency-requires-clause-few
-push_dependency-requires-clause-few c = (IsBoundedAt-place c.args.examples.now c.loop-place.place c.at-example.result c.len-place-end.ensures.bounded c.at-example.ensures).few
-
-pub push_dependency-requires-clause-small_source : goal.push_dependency-requires-clause-small_source
-push_dependency-requires-clause-small_source c f i =
-    let b = IsBoundedAt-place c.args.examples.now c.loop-place.place c.at-example.result c.len-place-end.ensures.bounded c.at-example.ensures in b.source.small f i
-
-pub push_dependency-requires-clause-small_target : goal.push_dependency-requires-clause-small_target
-push_dependency-requires-clause-small_target c f i =
-    let b = IsBoundedAt-place c.args.examples.now c.loop-place.place c.at-example.result c.len-place-end.ensures.bounded c.at-example.ensures in b.target.small f i
+pub push_dependency-requires : goal.push_dependency-requires
+push_dependency-requires c f i = IsDependency-place (pairs_of c.args.examples.now) c.loop-place.place c.at-example.result f c.requires.sources c.requires.none_foreign c.at-example.ensures i
 
 pub loop-place-preserved : goal.loop-place-preserved
-loop-place-preserved c = canon-more (map data_example c.args.examples.now) c.loop-place.place c.at-example.result _ _ c.at-example.ensures c.loop-place.invariant c.in_ok-push_dependency.ensures
+loop-place-preserved c = canon-more (pairs_of c.args.examples.now) c.loop-place.place c.at-example.result _ _ c.at-example.ensures c.loop-place.invariant c.in_ok-push_dependency.ensures
