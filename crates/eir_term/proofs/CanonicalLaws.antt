@@ -2,7 +2,8 @@
 -- dependency of an example exactly where each morphism from the example's source to K extends to one from its target
 -- to L; and `glav-is_dependency`: it is well formed. Below them stands what any list of values makes of any instance:
 -- `match-morphism` (a match of the atoms that an instance becomes is a morphism of that instance), its converse
--- `morphism-match`, and `identity-match`.
+-- `morphism-match`, `identity-match`, and `read_back-agree` (an assignment that equals a function on the values of the
+-- variables reads the instance as the function does). The laws of both kinds rest on these.
 --   HasNoForeign e == each constant of the target occurs in the source
 --   read_back vs s == what the assignment s makes of a value, by its term
 --   value_of vs x  == the value whose variable is x
@@ -31,6 +32,13 @@ use Rattle.eir_term.proofs.MappingLaws.{fact_with, ∈-vars, ∈-vars_from, Matc
 -- each constant of the target occurs in the source
 abbrev pub HasNoForeign : DataExample → Type 0
 HasNoForeign e = (c : ℕ) → Const c ∈ consts e.target → Const c ∈ consts e.source
+
+-- so each of these is a value of the source
+pub known-values : (e : DataExample) (v : Val) → HasNoForeign e → v ∈ consts e.target → v ∈ values e.source
+known-values e v known h =
+    let q = consts-const v e.target h in
+    let i = known q.0 (subst (λ u. u ∈ consts e.target) q.1 h) in
+    subst (λ u. u ∈ values e.source) (sym q.1) (consts-values (Const q.0) e.source i)
 
 -- numbers counted on from n: the element at place p has the number n + p + 1
 pub numbers-above : (x n : ℕ) (vs : List Val) → x ∈ numbers n vs → n < x
@@ -116,6 +124,17 @@ module _ (vs : List Val) where
   identity-match A names = morphism-match value_of A A
       (IsMorphism-agree (λ v. v) (read_back value_of) A A (λ v h. sym (value_of-term_of v (names v h))) (λ n. refl) (IsMorphism-identity A))
 
+  -- an assignment that equals g on the variables' values reads each value of the instance as g does
+  pub read_back-agree : (g : Val → Val) (t : ℕ → Val) (A : List Fact) → Names A → ((n : ℕ) → g (Fixed n) ≡ Fixed n) →
+      ((x : ℕ) → x ∈ vars (map (atom_of vs) A) → t x ≡ g (value_of x)) → (v : Val) → v ∈ values A → read_back t v ≡ g v
+  read_back-agree g t A names fixed same (Const c) h =
+      same (suc (place_of val_eq (Const c) vs)) (∈-vars-atom_of (suc (place_of val_eq (Const c) vs)) (Const c) A h refl)
+      ∙ ap g (value_of-term_of (Const c) (names (Const c) h))
+  read_back-agree g t A names fixed same (Fixed n) h = sym (fixed n)
+  read_back-agree g t A names fixed same (Null n) h =
+      same (suc (place_of val_eq (Null n) vs)) (∈-vars-atom_of (suc (place_of val_eq (Null n) vs)) (Null n) A h refl)
+      ∙ ap g (value_of-term_of (Null n) (names (Null n) h))
+
   -- the value of a variable of the atoms occurs in the instance, and has that variable
   pub value_of-occurs : (x : ℕ) (A : List Fact) → Names A → x ∈ vars (map (atom_of vs) A) → (value_of x ∈ values A) × (Var x ≡ term_of vs (value_of x))
   value_of-occurs x A names h =
@@ -128,6 +147,14 @@ module _ (vs : List Val) where
   Names-source A clean within (Const c) h f = within c (∈-consts c A h)
   Names-source A clean within (Fixed n) h f = absurd (false≢true (sym f))
   Names-source A clean within (Null n) h f = absurd (source-no_null A n clean h)
+
+-- so an assignment that equals g on the variables of the source reads each constant of the target as g does
+pub read_back-known : (e : DataExample) → HasNoForeign e → (vs : List Val) → Names vs e.source →
+    (g : Val → Val) → ((n : ℕ) → g (Fixed n) ≡ Fixed n) →
+    (t : ℕ → Val) → ((x : ℕ) → x ∈ vars (map (atom_of vs) e.source) → t x ≡ g (value_of vs x)) →
+    (v : Val) → v ∈ consts e.target → read_back vs t v ≡ g v
+read_back-known e known vs names g fixed t same v h =
+    read_back-agree vs g t e.source names fixed same v (known-values e v known h)
 
 -- the dependency of an example
 module _ (e : DataExample) (clean : IsSource e.source) (known : HasNoForeign e) where
@@ -168,13 +195,7 @@ module _ (e : DataExample) (clean : IsSource e.source) (known : HasNoForeign e) 
       let t = by-from_Satisfies K L (glav_dependency e) sat (λ x. g (value_of vs x)) m in (
         read_back vs t.0,
         match-morphism vs t.0 e.target L t.1,
-        λ v h.
-            let q = consts-const v e.target h in
-            let i = consts-values (Const q.0) e.source (known q.0 (subst (λ u. u ∈ consts e.target) q.1 h)) in
-            ap (read_back vs t.0) q.1
-            ∙ t.2 (suc (place_of val_eq (Const q.0) vs)) (∈-vars-atom_of vs (suc (place_of val_eq (Const q.0) vs)) (Const q.0) e.source i refl)
-            ∙ ap g (value_of-term_of vs (Const q.0) (Names-variables_source (Const q.0) i))
-            ∙ ap g (sym q.1),
+        read_back-known e known vs Names-variables_source g mo.fixed t.0 t.2,
       )
 
   -- its existential variables are those of the target's nulls

@@ -137,6 +137,11 @@ IsMorphism-identity K = record { sends = λ f i. subst (λ x. x ∈ K) (sym (sam
     same : (f : Fact) → fact_image (λ v. v) f ≡ f
     same f = ap (λ vs. let x : Fact = record { rel = f.rel; args = vs } in x) (map-id f.args)
 
+-- a morphism is one from fewer facts too
+pub IsMorphism-within : (g : Val → Val) (J K L : List Fact) → ((f : Fact) → f ∈ J → f ∈ K) →
+    IsMorphism g K L → IsMorphism g J L
+IsMorphism-within g J K L within m = record { sends = λ f h. m.sends f (within f h); fixed = m.fixed }
+
 -- a morphism sends values to values
 pub IsMorphism-values : (g : Val → Val) (K L : List Fact) (v : Val) → IsMorphism g K L → v ∈ values K → g v ∈ values L
 IsMorphism-values g K L v m h = let r = ∈-values_from v K h in ∈-values (g v) (fact_image g r.0) L (m.sends r.0 r.1) (∈-map g v (r.0).args r.2)

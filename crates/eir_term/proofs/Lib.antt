@@ -9,8 +9,10 @@ pub mod PlanLaws
 pub mod SearchLaws
 pub mod VerdictLaws
 pub mod ExtensionLaws
+pub mod GroundLaws
 pub mod MappingLaws
 pub mod PullLaws
 pub mod CanonicalLaws
+pub mod GavLaws
 pub mod FitLaws
 pub mod HeadlineLaws

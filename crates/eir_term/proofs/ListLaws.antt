@@ -44,6 +44,18 @@ module _ {X : Type 0} where
   filter-agree p q [] e = refl
   filter-agree p q (x ∷ xs) e = ap₂ (λ b ys. cond b (x ∷ ys) ys) (e x (inl refl)) (filter-agree p q xs (λ y i. e y (inr i)))
 
+  -- an element that passes is found
+  pub list_any-some : (p : X → Bool) (x : X) (xs : List X) → p x ≡ true → x ∈ xs → list_any p xs ≡ true
+  list_any-some p x [] t h = elim h [ ]
+  list_any-some p x (z ∷ xs) t (inl e) = rw (sym (ap p e) ∙ t)
+  list_any-some p x (z ∷ xs) t (inr h) =
+      elim (cases_Bool (p z)) [ inl s ↦ rw s | inr s ↦ rw s (list_any-some p x xs t h) ]
+
+  -- and none is found where none passes
+  pub list_any-none : (p : X → Bool) (xs : List X) → ((x : X) → x ∈ xs → p x ≡ false) → list_any p xs ≡ false
+  list_any-none p [] e = refl
+  list_any-none p (x ∷ xs) e = rw (e x (inl refl)) (list_any-none p xs (λ y i. e y (inr i)))
+
 module _ {X Y : Type 0} where
   pub ∈-map : (f : X → Y) (x : X) (xs : List X) → x ∈ xs → f x ∈ map f xs
   ∈-map f x [] h = elim h [ ]
@@ -132,9 +144,7 @@ module _ {X : Type 0} (eq : X → X → Bool) (same : (a b : X) → Decides (eq 
       omega arith
 
   pub ∈-list_any : (x : X) (xs : List X) → x ∈ xs → list_any (eq x) xs ≡ true
-  ∈-list_any x [] h = elim h [ ]
-  ∈-list_any x (z ∷ xs) (inl e) = rw ((same x z).1 e)
-  ∈-list_any x (z ∷ xs) (inr h) = elim (cases_Bool (eq x z)) [ inl s ↦ rw s | inr s ↦ rw s (∈-list_any x xs h) ]
+  ∈-list_any x xs h = list_any-some (eq x) x xs (eq-refl x) h
 
   pub ∈-list_any_from : (x : X) (xs : List X) → list_any (eq x) xs ≡ true → x ∈ xs
   ∈-list_any_from x [] t = absurd (false≢true t)

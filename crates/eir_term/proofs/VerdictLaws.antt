@@ -1,12 +1,15 @@
 -- What each part of the verdict says of the examples. The points are `first_refuting-some` and `all-extend`: a
 -- homomorphism that is found refutes, and where none is found all homomorphisms between the sources extend; and for
--- foreign constants `first_foreign-some` and `none-foreign`; for folds `a_fold` and `no_fold`.
-use Rattle.std.proofs.Common.{◌≡◌, ℕ, suc, ◌+◌, ◌⊎◌, inl, inr, Bool, true, false, not, List, [], ◌∷◌, find, Option, Some, None, option_map, slice_get, refl, sym, ◌∙◌, ap, subst, arith}
+-- foreign constants `first_foreign-some` and `none-foreign`; for folds `fold_test-some` and `all-fold`. Extensions and
+-- folds are both asked of `homs` from a start that sends the constants of an instance as a function does (`some_hom`,
+-- `no_hom`).
+use Rattle.std.proofs.Common.{◌≡◌, ℕ, suc, ◌+◌, ◌⊎◌, inl, inr, Bool, true, false, not, cond, List, [], ◌∷◌, find, Option, Some, None, option_map, slice_get, refl, sym, ◌∙◌, ap, subst, arith}
 use Rattle.std.specs.List.{list_any}
 use Rattle.std.proofs.lemmas.Bool.{cases_Bool, false≢true, not-true, not-false, both_ways}
 use Rattle.std.proofs.lemmas.Option.{same_Some, none-some}
 use Rattle.eir_term.specs.declared.val.Val.{Val}
 use Rattle.eir_term.specs.declared.val.Val.TheVariants.{Const, Fixed}
+use Rattle.eir_term.specs.declared.val.Kind.TheVariants.{Gav}
 use Rattle.eir_term.specs.declared.fact.Fact.{Fact}
 use Rattle.eir_term.specs.Lists.{◌∈◌}
 use Rattle.eir_term.specs.Values.{val_eq, val_eq-decides, is_const}
@@ -16,9 +19,9 @@ use Rattle.eir_term.specs.Homs.{Hom}
 use Rattle.eir_term.specs.Extension.{Extends, Refutes}
 use Rattle.eir_term.specs.Faults.{IsForeign, Folds}
 use Rattle.eir_term.specs.Fitting.{DataExample}
-use Rattle.eir_term.specs.Search.{homs, start_of, constants_fixed}
+use Rattle.eir_term.specs.Search.{homs, constants_fixed}
 use Rattle.eir_term.specs.Order.{KeepsFixed}
-use Rattle.eir_term.specs.Verdicts.{Finding, foreign_at, refuted, or_else, first_finding, is_none_of, first_foreign, is_stuck, first_refuting, domain_finding, refuted_finding, has_fold}
+use Rattle.eir_term.specs.Verdicts.{Finding, foreign_at, no_fold_at, refuted, or_else, first_finding, is_none_of, first_foreign, has_fold, is_stuck, first_refuting, domain_finding, fold_finding, refuted_finding}
 use Rattle.eir_term.proofs.ListLaws.{∈-filter_from, ∈-list_any, ∈-list_any_from}
 use Rattle.eir_term.proofs.MapLaws.{∈-domain_of}
 use Rattle.eir_term.proofs.HomLaws.{consts-values, image-graph, image-graph_none, get-graph, domain_of-graph}
@@ -76,15 +79,17 @@ option_map-none f (Some x) e = absurd (none-some (f x) (sym e))
 consts-no_fixed : (K : List Fact) (n : ℕ) → Fixed n ∈ consts K → ⊥
 consts-no_fixed K n h = false≢true (∈-filter_from is_const (Fixed n) (values K) h).1
 
--- h on the constants of the target moves no fixed constant
-start_of-keeps_fixed : (e : DataExample) (h : List (Val × Val)) → KeepsFixed (start_of e h)
-start_of-keeps_fixed e h n = image-graph_none (image h) (Fixed n) (consts e.target) (consts-no_fixed e.target n)
+-- g on the constants of an instance moves no fixed constant
+graph-keeps_fixed : (g : Val → Val) (J : List Fact) → KeepsFixed (graph g (consts J))
+graph-keeps_fixed g J n = image-graph_none g (Fixed n) (consts J) (consts-no_fixed J n)
 
--- what agrees with h on the constants of the target follows h on them
-start_of-follows : (e : DataExample) (h : List (Val × Val)) (g : Val → Val) → ((v : Val) → v ∈ consts e.target → g v ≡ image h v) → Follows g (start_of e h)
-start_of-follows e h g same v w q =
-    let i : v ∈ consts e.target = subst (λ vs. v ∈ vs) (domain_of-graph (image h) (consts e.target)) (∈-domain_of (start_of e h) v w q) in
-    same v i ∙ same_Some (image h v) w (sym (get-graph (image h) v (consts e.target) i) ∙ q)
+-- what agrees with g on them follows it
+graph-follows : (g k : Val → Val) (J : List Fact) → ((v : Val) → v ∈ consts J → k v ≡ g v) →
+    Follows k (graph g (consts J))
+graph-follows g k J same v w q =
+    let named = ∈-domain_of (graph g (consts J)) v w q in
+    let i : v ∈ consts J = subst (λ vs. v ∈ vs) (domain_of-graph g (consts J)) named in
+    same v i ∙ same_Some (g v) w (sym (get-graph g v (consts J) i) ∙ q)
 
 is_none_of-true : (hs : List (List (Val × Val))) (h : List (Val × Val)) → is_none_of hs ≡ true → h ∈ hs → ⊥
 is_none_of-true [] h t i = i
@@ -94,41 +99,54 @@ is_none_of-false : (hs : List (List (Val × Val))) → is_none_of hs ≡ false �
 is_none_of-false [] t = absurd (false≢true (sym t))
 is_none_of-false (h ∷ hs) t = (h, inl refl)
 
+-- where some homomorphism is listed from that start, it agrees with g on the constants
+some_hom : (g : Val → Val) (J L : List Fact) → is_none_of (homs J L (graph g (consts J))) ≡ false →
+    (h : List (Val × Val)) × Hom h J L × ((v : Val) → v ∈ consts J → image h v ≡ g v)
+some_hom g J L t =
+    let k = is_none_of-false (homs J L (graph g (consts J))) t in
+    let r = homs-sound J L (graph g (consts J)) k.0 (graph-keeps_fixed g J) k.1 in
+    let named = sym (domain_of-graph g (consts J)) in
+    (k.0, r.0, λ v i. r.2 v (consts-values v J i) (subst (λ vs. v ∈ vs) named i) ∙ image-graph g v (consts J) i)
+
+-- where none is listed there is none
+no_hom : (g : Val → Val) (J L : List Fact) → is_none_of (homs J L (graph g (consts J))) ≡ true →
+    (h : List (Val × Val)) → Hom h J L → ((v : Val) → v ∈ consts J → image h v ≡ g v) → ⊥
+no_hom g J L t h hom same = is_none_of-true (homs J L (graph g (consts J))) (graph (image h) (values J)) t
+    (homs-complete J L (graph g (consts J)) (image h) hom.morphism (graph-follows g (image h) J same))
+
 -- the test of the extension is exact: a homomorphism that is stuck does not extend
 pub no_extension : (e f : DataExample) (h : List (Val × Val)) → is_stuck e f h ≡ true → Extends h e.target f.target → ⊥
-no_extension e f h t x = is_none_of-true (homs e.target f.target (start_of e h)) (graph (image x.0) (values e.target)) t
-    (homs-complete e.target f.target (start_of e h) (image x.0) (x.1).morphism (start_of-follows e h (image x.0) x.2))
+no_extension e f h t x = no_hom (image h) e.target f.target t x.0 x.1 x.2
 
 -- and one that is not stuck extends
 pub an_extension : (e f : DataExample) (h : List (Val × Val)) → is_stuck e f h ≡ false → Extends h e.target f.target
-an_extension e f h t =
-    let k = is_none_of-false (homs e.target f.target (start_of e h)) t in
-    let r = homs-sound e.target f.target (start_of e h) k.0 (start_of-keeps_fixed e h) k.1 in
-    let named = domain_of-graph (image h) (consts e.target) in
-    (k.0, r.0, λ v i. r.2 v (consts-values v e.target i) (subst (λ vs. v ∈ vs) (sym named) i) ∙ image-graph (image h) v (consts e.target) i)
-
--- the constants with themselves
-constants_fixed-keeps_fixed : (J : List Fact) → KeepsFixed (constants_fixed J)
-constants_fixed-keeps_fixed J n = image-graph_none (λ v. v) (Fixed n) (consts J) (consts-no_fixed J n)
-
-constants_fixed-follows : (J : List Fact) (g : Val → Val) → ((v : Val) → v ∈ consts J → g v ≡ v) → Follows g (constants_fixed J)
-constants_fixed-follows J g same v w q =
-    let i : v ∈ consts J = subst (λ vs. v ∈ vs) (domain_of-graph (λ v. v) (consts J)) (∈-domain_of (constants_fixed J) v w q) in
-    same v i ∙ same_Some v w (sym (get-graph (λ v. v) v (consts J) i) ∙ q)
+an_extension e f h t = some_hom (image h) e.target f.target t
 
 -- the test of folding is exact
 pub a_fold : (J : List Fact) → has_fold J ≡ true → Folds J
 a_fold J t =
     let hs = homs J (ground_part J) (constants_fixed J) in
-    let k = is_none_of-false hs (not-true (is_none_of hs) t) in
-    let r = homs-sound J (ground_part J) (constants_fixed J) k.0 (constants_fixed-keeps_fixed J) k.1 in
-    (k.0, r.0, λ v i. r.2 v (consts-values v J i) (subst (λ vs. v ∈ vs) (sym (domain_of-graph (λ v. v) (consts J))) i) ∙ image-graph (λ v. v) v (consts J) i)
+    some_hom (λ v. v) J (ground_part J) (not-true (is_none_of hs) t)
 
 pub no_fold : (J : List Fact) → has_fold J ≡ false → Folds J → ⊥
 no_fold J t x =
     let hs = homs J (ground_part J) (constants_fixed J) in
-    is_none_of-true hs (graph (image x.0) (values J)) (not-false (is_none_of hs) t)
-    (homs-complete J (ground_part J) (constants_fixed J) (image x.0) (x.1).morphism (constants_fixed-follows J (image x.0) x.2))
+    no_hom (λ v. v) J (ground_part J) (not-false (is_none_of hs) t) x.0 x.1 x.2
+
+-- what is found of a target is that it does not fold
+pub fold_test-some : (J : List Fact) (found r : Finding) → cond (has_fold J) None (Some found) ≡ Some r →
+    (Folds J → ⊥) × (found ≡ r)
+fold_test-some J found r e = elim (cases_Bool (has_fold J)) [
+  | inl t ↦ (let q : None ≡ Some r = sym (rw t) ∙ e in absurd (none-some r q))
+  | inr t ↦ (let q : Some found ≡ Some r = sym (rw t) ∙ e in (no_fold J t, same_Some found r q))
+]
+
+-- and where nothing is found it folds
+pub fold_test-none : (J : List Fact) (found : Finding) → cond (has_fold J) None (Some found) ≡ None → Folds J
+fold_test-none J found e = elim (cases_Bool (has_fold J)) [
+  | inl t ↦ a_fold J t
+  | inr t ↦ (let q : Some found ≡ None = sym (rw t) ∙ e in absurd (none-some found (sym q)))
+]
 
 -- the homomorphism that is found refutes
 pub first_refuting-some : (e f : DataExample) (h : List (Val × Val)) → first_refuting e f ≡ Some h → Refutes e f h
@@ -159,6 +177,12 @@ pub none-foreign : (E : List DataExample) → domain_finding E ≡ None → (e :
 none-foreign E q e i c =
     let r = first_finding-none (λ i e. option_map (foreign_at i) (first_foreign e)) 0 E e q i in
     first_foreign-none e (Const c) (option_map-none (foreign_at r.0) (first_foreign e) r.1)
+
+-- where no finding is of a target that does not fold, every target folds
+pub all-fold : (E : List DataExample) → fold_finding Gav E ≡ None → (e : DataExample) → e ∈ E → Folds e.target
+all-fold E q e i =
+    let r = first_finding-none (λ i e. cond (has_fold e.target) None (Some (no_fold_at i))) 0 E e q i in
+    fold_test-none e.target (no_fold_at r.0) r.1
 
 -- where no pair is refuted, every homomorphism between two sources extends to the targets
 pub all-extend : (E : List DataExample) → refuted_finding E ≡ None → (e f : DataExample) → e ∈ E → f ∈ E → (h : List (Val × Val)) →

@@ -1,17 +1,18 @@
 -- The definitions computed on worked examples.
-use Rattle.std.specs.Prelude.{◌≡◌, ℕ, List, [], ◌∷◌, refl}
+use Rattle.std.specs.Prelude.{◌≡◌, ℕ, true, false, List, [], ◌∷◌, refl}
 use Rattle.eir_term.specs.declared.val.Val.{Val}
-use Rattle.eir_term.specs.declared.val.Val.TheVariants.{Const, Null}
+use Rattle.eir_term.specs.declared.val.Val.TheVariants.{Const, Fixed, Null}
 use Rattle.eir_term.specs.declared.fact.Fact.{Fact}
 use Rattle.eir_term.specs.declared.val.Kind.TheVariants.{Glav, Gav}
 use Rattle.eir_term.specs.declared.term.Term.{Term}
-use Rattle.eir_term.specs.declared.term.Term.TheVariants.{Var}
+use Rattle.eir_term.specs.declared.term.Term.TheVariants.{Var, Fixed as FixedTerm}
 use Rattle.eir_term.specs.declared.term.Atom.{Atom}
 use Rattle.eir_term.specs.Fitting.{DataExample}
+use Rattle.eir_term.specs.Canonical.{canon}
 use Rattle.eir_term.specs.Profiles.{profile}
 use Rattle.eir_term.specs.Plans.{plan}
-use Rattle.eir_term.specs.Search.{need, pairneed}
-use Rattle.eir_term.specs.Verdicts.{verdict, foreign_at, no_fold_at, refuted, fits}
+use Rattle.eir_term.specs.Search.{need, pairneed, foldneed}
+use Rattle.eir_term.specs.Verdicts.{verdict, foreign_at, no_fold_at, refuted, fits, has_fold}
 
 -- relation 0 is of the source, relation 1 of the target
 abbrev pub source_fact : List Val → Fact
@@ -102,6 +103,87 @@ pub spare_null-gav : verdict Gav spare_null ≡ fits (record {
   conclusion = target_atom (Var 1 ∷ []) ∷ [];
 } ∷ [])
 spare_null-gav = refl
+
+-- T(a,?n) and T(a,b): the null goes to b
+abbrev pub folding : List Fact
+folding = target_fact (Const 0 ∷ Null 2 ∷ []) ∷ target_fact (Const 0 ∷ Const 1 ∷ []) ∷ []
+
+pub folding-folds : has_fold folding ≡ true
+folding-folds = refl
+
+-- the one ground fact is tried for each of the two
+pub folding-need : foldneed folding ≡ 2
+folding-need = refl
+
+-- T(a,?n) and T(b,c): a fold moves no constant, so the first fact has nowhere to go
+abbrev pub rigid : List Fact
+rigid = target_fact (Const 0 ∷ Null 3 ∷ []) ∷ target_fact (Const 1 ∷ Const 2 ∷ []) ∷ []
+
+pub rigid-stuck : has_fold rigid ≡ false
+rigid-stuck = refl
+
+-- T(a,?n), T(?n,b), T(a,c) and T(d,b): the null would go to c in the first fact and to d in the second
+abbrev pub torn : List Fact
+torn =
+    target_fact (Const 0 ∷ Null 4 ∷ []) ∷ target_fact (Null 4 ∷ Const 1 ∷ [])
+    ∷ target_fact (Const 0 ∷ Const 2 ∷ []) ∷ target_fact (Const 3 ∷ Const 1 ∷ []) ∷ []
+
+pub torn-stuck : has_fold torn ≡ false
+torn-stuck = refl
+
+-- R(a,b) with T(b), T(?n) and T(a)
+abbrev pub both_columns : List DataExample
+both_columns = record {
+  source = source_fact (Const 0 ∷ Const 1 ∷ []) ∷ [];
+  target = target_fact (Const 1 ∷ []) ∷ target_fact (Null 2 ∷ []) ∷ target_fact (Const 0 ∷ []) ∷ [];
+} ∷ []
+
+-- R(x1,x2) -> T(x2); R(x1,x2) -> T(x1)
+pub both_columns-canon : canon Gav both_columns ≡
+    record { premise = source_atom (Var 1 ∷ Var 2 ∷ []) ∷ []; exists = []; conclusion = target_atom (Var 2 ∷ []) ∷ [] }
+    ∷ record {
+      premise = source_atom (Var 1 ∷ Var 2 ∷ []) ∷ [];
+      exists = [];
+      conclusion = target_atom (Var 1 ∷ []) ∷ [];
+    } ∷ []
+both_columns-canon = refl
+
+pub both_columns-gav : verdict Gav both_columns ≡ fits (canon Gav both_columns)
+both_columns-gav = refl
+
+-- R(a) with T(a,done), where done is a fixed constant
+abbrev pub fixed_mark : List DataExample
+fixed_mark =
+    record { source = source_fact (Const 0 ∷ []) ∷ []; target = target_fact (Const 0 ∷ Fixed 1 ∷ []) ∷ [] } ∷ []
+
+-- R(x1) -> T(x1,=done)
+pub fixed_mark-gav : verdict Gav fixed_mark ≡ fits (record {
+  premise = source_atom (Var 1 ∷ []) ∷ [];
+  exists = [];
+  conclusion = target_atom (Var 1 ∷ FixedTerm 1 ∷ []) ∷ [];
+} ∷ [])
+fixed_mark-gav = refl
+
+-- R(a) with T(?n); R(b) with nothing: for GAV the fault comes before the refutation
+abbrev pub fault_first : List DataExample
+fault_first =
+    record { source = source_fact (Const 0 ∷ []) ∷ []; target = target_fact (Null 2 ∷ []) ∷ [] }
+    ∷ record { source = source_fact (Const 1 ∷ []) ∷ []; target = [] } ∷ []
+
+pub fault_first-glav : verdict Glav fault_first ≡ refuted 0 1 ((Const 0, Const 1) ∷ [])
+fault_first-glav = refl
+
+pub fault_first-gav : verdict Gav fault_first ≡ no_fold_at 0
+fault_first-gav = refl
+
+-- R(a) with T(?n); R(b) with T(zed): a foreign constant of any example comes before all else
+abbrev pub foreign_first : List DataExample
+foreign_first =
+    record { source = source_fact (Const 0 ∷ []) ∷ []; target = target_fact (Null 3 ∷ []) ∷ [] }
+    ∷ record { source = source_fact (Const 1 ∷ []) ∷ []; target = target_fact (Const 2 ∷ []) ∷ [] } ∷ []
+
+pub foreign_first-gav : verdict Gav foreign_first ≡ foreign_at 1 (Const 2)
+foreign_first-gav = refl
 
 -- R(a) with nothing; R(b) with T(b)
 abbrev pub missing_target : List DataExample
