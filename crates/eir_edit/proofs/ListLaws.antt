@@ -200,3 +200,9 @@ agree a b e = sym ((Decides-eqb a b).1 e)
 pub find-absent : {X : Type 0} (p : X → Bool) (xs : List X) → list_any p xs ≡ false → find p xs ≡ None
 find-absent p [] e = refl
 find-absent p (x ∷ xs) e = let parts = or_parts (p x) (list_any p xs) e in rw parts.0 (find-absent p xs parts.1)
+
+-- an element in place of one with an equal image
+pub map-set_equal : {X Y : Type 0} (v : X → Y) (xs : List X) (i : ℕ) (x y : X) → y ≡ get_or xs i y → v x ≡ v y → map v (set xs i x) ≡ map v xs
+map-set_equal v [] i x y at e = refl
+map-set_equal {X} {Y} v (z ∷ xs) zero x y at e = ap (λ (w : Y). w ∷ map v xs) (e ∙ ap v at)
+map-set_equal {X} {Y} v (z ∷ xs) (suc i) x y at e = ap (λ (ws : List Y). v z ∷ ws) (map-set_equal v xs i x y at e)

@@ -134,6 +134,19 @@ impl Example {
         Ok(example)
     }
 
+    /// An equal example, whose instances are settled. It costs its line, and a reference for each instance that is settled;
+    /// for another, what [`Instance::settled`] does.
+    pub(crate) fn settled(&self, alloc: Global) -> Result<Example, Memory>
+        ensures { IfOk result (λ x. x ≡ self.now) }
+    {
+        Ok(Example {
+            name: Text::make(alloc, self.name.bytes())?,
+            version: self.version,
+            source: Instance::share_settled(&self.source)?,
+            target: Instance::share_settled(&self.target)?,
+        })
+    }
+
     /// The example with another instance on a side, under another version. The instance of the other side is shared.
     fn renewed(
         &self,

@@ -31,7 +31,7 @@ const UNDO_LIMIT: usize = 32;
 
 /// The present list of examples, and the older lists that an undo goes back to, the newest first. The lists share their
 /// examples. An edit costs its line, a reference for each example, and a copy of the one instance that it changes, since
-/// the instance before it is kept.
+/// the instance before it is kept; the copy shares the index with it.
 #[derive(Drop)]
 pub struct Examples {
     alloc: Global,
@@ -236,6 +236,15 @@ impl Examples {
         let list = with_shared(self.alloc, &self.list, &lender.list[place])?;
         self.edit(list)?;
         Ok(())
+    }
+
+    /// Settles the instances of the present examples, so that searches find the index of each ready. A fit calls it once
+    /// before its searches. An example that is settled costs its line and two references. Without memory some examples are
+    /// settled, and all are equal to what they were.
+    pub fn settle(&mut self) -> Result<(), Memory>
+        ensures { self.new ≡ self.old }
+    {
+        lists::settle(self.alloc, &mut self.list)
     }
 
     /// Makes a list the present one, and keeps the one before it, and up to 32 in all. Without memory all stays.

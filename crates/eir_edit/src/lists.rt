@@ -118,3 +118,14 @@ pub fn without(
     let _ = made.remove(place);
     Ok(made)
 }
+
+/// Puts, in the place of each example, an equal one whose instances are settled.
+pub fn settle(alloc: Global, examples: &mut [Rc<Example>]) -> Result<(), Memory>
+    ensures { map (λ x. x.value) examples.new ≡ map (λ x. x.value) examples.old }
+{
+    'examples: for place in 0..examples.len() {
+        let settled = examples[place].settled(alloc)?;
+        examples[place] = Rc::new(alloc, settled)?;
+    }
+    Ok(())
+}

@@ -196,6 +196,32 @@ fn keeps_to_the_limit_of_facts(rt: HostRuntime) -> Result<(), Fail> {
     Ok(())
 }
 
+/// Settles the examples. The answer is whether the only one has as many target facts as before, and its version is live.
+fn settles(examples: &mut Examples, facts: usize, version: u64) -> Result<bool, Fail> {
+    examples.settle()?;
+    Ok(fact_count(examples) == facts && examples.live(version))
+}
+
+#[test]
+fn settles_between_edits(rt: HostRuntime) -> Result<(), Fail> {
+    let mut versions = Versions::new();
+    let mut examples = Examples::new(rt.alloc());
+    for (step, facts, version) in [
+        (Step::Add(1), 0, 0),
+        (Step::Put(1, 0), 1, 1),
+        (Step::Put(1, 1), 2, 2),
+        (Step::Cut(1, 0), 1, 3),
+        (Step::Put(1, 0), 2, 4),
+        (Step::Undo, 1, 3),
+        (Step::Undo, 2, 2),
+    ] {
+        let got = edit(rt.alloc(), &mut examples, &mut versions, step)?;
+        assert!(rt; got == "ok");
+        assert!(rt; settles(&mut examples, facts, version)?, "{facts} facts");
+    }
+    Ok(())
+}
+
 /// The schema with relations of one column: R of the source and T of the target, the target first where it is asked.
 fn schema_of(alloc: Global, target_first: bool) -> Result<Schema, Fail> {
     let mut schema = Schema::new(alloc);

@@ -1,9 +1,10 @@
--- From the drafts of levels to the levels. The points are `levels-are` and `ready-drafts`.
+-- From the drafts of levels to the levels. The points are `course-levels` and `course-ready`.
 use Rattle.std.proofs.Common.{◌≡◌, ◌≢◌, ◌<◌, ◌⊎◌, ℕ, zero, suc, ◌+◌, ◌==◌, ◌||◌, Bool, true, false, cond, List, [], ◌∷◌, ◌++◌, map, take, set, length, get_or, Option, Some, None, is_some, option_map, unwrap_or, slice_get, refl, sym, ap, ap₂, ◌∙◌, subst, inl, inr, append_assoc, length-append, arith}
-use Rattle.std.specs.List.{list_any, cons_option}
+use Rattle.std.specs.List.{list_any, cons_option, sum_by}
 use Rattle.std.proofs.lemmas.Bool.{cases_Bool, cases_eq, false≢true}
 use Rattle.std.proofs.lemmas.List.{take_at, get_or-map, get_or-set_same, get_or-set_other, length-map, length-set}
 use Rattle.std.proofs.lemmas.List.Elements.{filter_map-append}
+use Rattle.std.proofs.lemmas.List.Sums.{sum_by-cons}
 use Rattle.std.proofs.lemmas.List.Folds.{list_any-append}
 use Rattle.eir_term.specs.declared.val.Val.{Val}
 use Rattle.eir_term.specs.declared.fact.Fact.{Fact}
@@ -14,19 +15,21 @@ use Rattle.eir_term.specs.Maps.{get, image}
 use Rattle.eir_term.specs.Bind.{facts_at}
 use Rattle.eir_term.specs.Plans.{is_known, plan, listed_first}
 use Rattle.eir_term.proofs.PlanLaws.{plan-below}
-use Rattle.eir_hom.specs.declared.stock.Shape.{Shape}
-use Rattle.eir_hom.specs.declared.compile.Draft.{Draft}
+use Rattle.eir_hom.specs.declared.course.Shape.{Shape}
 use Rattle.eir_hom.specs.Matching.{Level, Match}
 use Rattle.eir_hom.specs.Tables.{Table}
 use Rattle.eir_hom.specs.Columns.{is_among, seen_after}
 use Rattle.eir_hom.specs.FactRows.{numbers_at, row_at, Within}
 use Rattle.eir_hom.specs.Levels.{number, first_known, but_at, slot_of, key_column, level_at, level_of, levels_from, levels_of, bindings_of}
-use Rattle.eir_hom.specs.Stocks.{no_table, fact_table, shape_table, IsShape}
-use Rattle.eir_hom.specs.Compiling.{given_image, first_set, marked, shapes_by, slot_in, draft_level, bindings_from, ArePlaces, AreDrafts, AreReadyDrafts}
+use Rattle.eir_hom.specs.Stocks.{no_table, fact_table, shape_table, row_length, IsShape, AreShapes}
+use Rattle.eir_hom.specs.Courses.{shapes_of}
+use Rattle.eir_hom.specs.Lazy.{all_levels}
+use Rattle.eir_hom.specs.Compiling.{Draft, given_image, drafts_of, first_set, marked, shapes_by, slot_in, draft_level, bindings_from, ArePlaces, AreDrafts, AreReadyDrafts}
 use Rattle.eir_hom.proofs.ColumnLaws.{same-refl}
 use Rattle.eir_hom.proofs.StockLaws.{get_or-found, slice_get-there, number-found, numbers-are, args-among, length-but_at}
 use Rattle.eir_hom.proofs.StartLaws.{map-at}
 use Rattle.eir_hom.proofs.ImageLaws.{bindings-are}
+use Rattle.eir_hom.proofs.DraftingLaws.{drafts-are}
 
 or-false : (b : Bool) → (b || false) ≡ b
 or-false true = refl
@@ -320,33 +323,39 @@ module _ (A B : List Fact) (ts : List Table) where
       ready-from order (map is_some images) (length images ∷ slots) ds (λ p h. plan-below A B start p (subst (λ ps. p ∈ ps) o h)) (among-first (length (values A)) (length images) slots z)
       (λ n h. let y : n ≡ 0 + n = omega arith in among-more n (length images) slots (ap (λ k. is_among k slots) y ∙ start-keys images 0 n h)) a
 
--- the matcher that is made from images, tables and drafts
-module _ (A B : List Fact) (start : List (Val × Val)) (order : List ℕ) (images first second : List (Option ℕ)) (ts : List Table) (slots : ℕ) (now mid : Match) (ds given : List Draft)
-    (o : order ≡ plan A B start) (e : images ≡ map (given_image B start) (values A)) (first_is : first ≡ images) (a : AreDrafts A B ts ds (shapes_by A (map is_some first) order))
-    (now_is : now ≡ record { slots = slots; tables = ts; levels = []; start = []; placed = [] }) (second_is : second ≡ images)
-    (mid_is : mid ≡ record now { start = (length second, 0) ∷ bindings_from 0 second }) (given_is : given ≡ ds) where
-  its_drafts : AreDrafts A B ts ds (shapes_by A (map is_some images) order)
-  its_drafts = subst (λ is. AreDrafts A B ts ds (shapes_by A (map is_some is) order)) first_is a
+-- which values have an image
+flags-are : (B : List Fact) (start : List (Val × Val)) (vs : List Val) → map is_some (map (given_image B start) vs) ≡ map (is_known start []) vs
+flags-are B start [] = refl
+flags-are B start (v ∷ vs) = ap₂ (λ b bs. b ∷ bs) (some-if (is_known start [] v) (number B (image start v))) (flags-are B start vs)
 
-  its_tables : mid.tables ≡ ts
-  its_tables = ap (λ (m : Match). m.tables) mid_is ∙ ap (λ (m : Match). m.tables) now_is
+-- rows of a table are as long as those of its shape
+pub stride-is : (A B : List Fact) (s : Shape) → IsShape A s → (shape_table A B s).stride ≡ row_length A s
+stride-is A B s h =
+    let t = slice_get-there A s.place h.0 in
+    let wide : length (numbers_at A s.place) ≡ length (t.0).args = ap length (numbers-are A s.place t.0 t.1) ∙ length-map (t.0).args (number A) in
+    ap (λ o. (unwrap_or (option_map (fact_table A B s.column) o) no_table).stride) t.1 ∙ sym (length-but_at s.column (numbers_at A s.place) (t.0).args wide)
 
-  its_start : mid.start ≡ (length images, 0) ∷ bindings_from 0 images
-  its_start = ap (λ (m : Match). m.start) mid_is ∙ ap (λ is. (length is, 0) ∷ bindings_from 0 is) second_is
+pub strides-are : (A B : List Fact) (ss : List Shape) → AreShapes A ss → sum_by (λ (t : Table). t.stride) (map (shape_table A B) ss) ≡ sum_by (row_length A) ss
+strides-are A B [] all = refl
+strides-are A B (s ∷ ss) all =
+    sum_by-cons (λ (t : Table). t.stride) (shape_table A B s) (map (shape_table A B) ss) ∙ ap₂ (λ n k. n + k) (stride-is A B s all.0) (strides-are A B ss all.1) ∙ sym (sum_by-cons (row_length A) s ss)
 
-  -- its drafts can be pushed
-  pub ready : AreReadyDrafts A mid.tables (map (λ p. p.0) mid.start) given
-  ready =
+-- the levels of a course, where these are the images at the start
+module _ (A B : List Fact) (start : List (Val × Val)) (images : List (Option ℕ)) (e : images ≡ map (given_image B start) (values A)) (m : Match)
+    (tables : m.tables ≡ map (shape_table A B) (shapes_of A B start)) (shapes : m.shapes ≡ shapes_of A B start) where
+  course-is : shapes_of A B start ≡ shapes_by A (map is_some images) (plan A B start)
+  course-is = ap (λ k. shapes_by A k (plan A B start)) (sym (ap (map is_some) e ∙ flags-are B start (values A)))
+
+  its_drafts : AreDrafts A B m.tables (drafts_of 0 m.shapes) (shapes_by A (map is_some images) (plan A B start))
+  its_drafts = rw (tables, shapes, ← course-is) (drafts-are A B (shapes_of A B start))
+
+  pub course-ready : m.start ≡ (length images, 0) ∷ bindings_from 0 images → AreReadyDrafts A m.tables (map (λ p. p.0) m.start) (drafts_of 0 m.shapes)
+  course-ready s =
       let l : length images ≡ length (values A) = ap length e ∙ length-map (values A) (given_image B start) in
-      rw (its_tables, its_start, given_is) (ready-drafts A B ts start order images ds o l its_drafts)
+      rw s (ready-drafts A B m.tables start (plan A B start) images (drafts_of 0 m.shapes) refl l its_drafts)
 
-  module _ (end : Match) (end_is : end ≡ record mid { levels = map (draft_level A mid.tables) given }) where
-    -- and then it has the levels and the bindings
-    pub end-levels : end.levels ≡ levels_of A B start
-    end-levels =
-        ap (λ (m : Match). m.levels) end_is
-        ∙ ap₂ (λ t xs. map (draft_level A t) xs) its_tables given_is
-        ∙ levels-are A B start ts order images ds o e its_drafts
+  pub course-levels : all_levels A m ≡ levels_of A B start
+  course-levels = levels-are A B start m.tables (plan A B start) images (drafts_of 0 m.shapes) refl e its_drafts
 
-    pub end-start : end.start ≡ bindings_of A B start
-    end-start = ap (λ (m : Match). m.start) end_is ∙ its_start ∙ bindings-are A B start images e
+  pub course-start : m.start ≡ (length images, 0) ∷ bindings_from 0 images → m.start ≡ bindings_of A B start
+  course-start s = s ∙ bindings-are A B start images e

@@ -1,22 +1,17 @@
 -- Drafts of levels, one by one.
-use Rattle.std.proofs.Common.{◌≡◌, ◌≤◌, ◌<◌, ℕ, zero, suc, ◌+◌, Bool, true, false, cond, List, [], ◌∷◌, ◌++◌, map, take, drop, set, length, get_or, Some, refl, sym, ap, ◌∙◌, add-one, drop-cons, length-take, arith}
-use Rattle.std.proofs.lemmas.List.{take_more, length-set, get_or-take}
+use Rattle.std.proofs.Common.{◌≡◌, ◌<◌, ℕ, zero, suc, ◌+◌, Bool, true, false, cond, List, [], ◌∷◌, ◌++◌, map, take, drop, set, length, get_or, Some, refl, sym, ap, ◌∙◌, add-one, drop-cons, arith}
+use Rattle.std.proofs.lemmas.List.{take_more, length-set}
 use Rattle.eir_term.specs.declared.fact.Fact.{Fact}
-use Rattle.eir_hom.specs.declared.stock.Shape.{Shape}
-use Rattle.eir_hom.specs.declared.compile.Draft.{Draft}
+use Rattle.eir_hom.specs.declared.course.Shape.{Shape}
+use Rattle.eir_hom.specs.Compiling.{Draft}
 use Rattle.eir_hom.specs.FactRows.{numbers_at, row_at}
 use Rattle.eir_hom.specs.Tables.{Table}
 use Rattle.eir_hom.specs.Columns.{seen_after, bound_slots}
-use Rattle.eir_hom.specs.Stocks.{no_table, shape_table}
-use Rattle.eir_hom.specs.Compiling.{first_set, marked, shapes_by, AreDrafts, AreReadyDrafts, draft_level}
+use Rattle.eir_hom.specs.Compiling.{first_set, marked, shapes_by, AreReadyDrafts, draft_level}
 
 -- a column more
 pub first_set-step : (known : List Bool) (ns : List ℕ) (i : ℕ) → i < length ns → first_set known i (drop i ns) ≡ cond (get_or known (get_or ns i 0) false) (Some i) (first_set known (i + 1) (drop (i + 1) ns))
 first_set-step known ns i h = rw (add-one, drop-cons ns i 0 h) refl
-
--- a number more
-pub marked-step : (known : List Bool) (ns : List ℕ) (i : ℕ) → i < length ns → marked known (drop i ns) ≡ marked (set known (get_or ns i 0) true) (drop (i + 1) ns)
-marked-step known ns i h = rw (add-one, drop-cons ns i 0 h) refl
 
 pub length-marked : (known : List Bool) (ns : List ℕ) → length (marked known ns) ≡ length known
 length-marked known [] = refl

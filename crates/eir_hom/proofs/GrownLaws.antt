@@ -1,13 +1,14 @@
 -- A matcher whose tables get more cells behind those that are there.
-use Rattle.std.proofs.Common.{◌≡◌, ℕ, ◌+◌, ◌*◌, ◌≤◌, Bool, List, [], ◌∷◌, ◌++◌, length, take, drop, refl, ap, ap₂, ◌∙◌, arith}
+use Rattle.std.proofs.Common.{◌≡◌, ℕ, Bool, List, [], ◌∷◌, ◌++◌, length, take, drop, refl, ap, ap₂, ◌∙◌, arith}
 use Rattle.std.proofs.lemmas.List.{length-append}
 use Rattle.eir_hom.specs.declared.columns.Column.{Column}
 use Rattle.eir_hom.specs.declared.tables.Range.{Range}
+use Rattle.eir_hom.specs.declared.course.Shape.{Shape}
 use Rattle.eir_hom.specs.declared.matching.CompiledLevel.{CompiledLevel}
 use Rattle.eir_hom.specs.Tables.{Table, TablesView, rows_in}
-use Rattle.eir_hom.specs.Matching.{Bindings, Level, Match, rows_at}
+use Rattle.eir_hom.specs.Matching.{Bindings, Level, Match}
 use Rattle.eir_hom.specs.Columns.{seen_after, slots_of}
-use Rattle.eir_hom.specs.MatcherParts.{columns_at, level_in, levels_in, start_in, IsCompiled, AreCompiled, IsRange, Stands, IsMatcher}
+use Rattle.eir_hom.specs.MatcherParts.{columns_at, levels_in, start_in, AreCompiled, IsRange, IsMatcher}
 use Rattle.eir_hom.proofs.TableLaws.{rows_in-append}
 use Rattle.eir_hom.proofs.MatcherLaws.{Gone}
 use Rattle.eir_hom.proofs.ScanLaws.{seen_of}
@@ -16,6 +17,7 @@ use Rattle.eir_hom.proofs.LevelLaws.{split-at}
 -- the same tables, with more cells behind
 pub record IsGrown (ts more : TablesView) : Type 0 where
   pub tables : more.tables ≡ ts.tables
+  pub shapes : more.shapes ≡ ts.shapes
   pub cells : take (length ts.cells) more.cells ≡ ts.cells
 
 module _ (ts more : TablesView) (g : IsGrown ts more) where
@@ -26,8 +28,8 @@ module _ (ts more : TablesView) (g : IsGrown ts more) where
   pub view-on : (cs : List Column) (ls : List CompiledLevel) (given images placed : List ℕ) (depth : ℕ) (now : Match) →
       seen_of ts cs ls given images placed depth ≡ now → seen_of more cs ls given images placed depth ≡ now
   view-on cs ls given images placed depth now v =
-      let m : List Table → List Level → Match = λ t l. record { slots = length images; tables = t; levels = l; start = start_in given images; placed = take depth placed } in
-      ap₂ m g.tables (levels-on cs ls) ∙ v
+      let m : List Table → List Shape → List Level → Match = λ t s l. record { slots = length images; tables = t; shapes = s; levels = l; start = start_in given images; placed = take depth placed } in
+      ap₂ (λ t s. m t s (levels_in more cs ls)) g.tables g.shapes ∙ ap (m ts.tables ts.shapes) (levels-on cs ls) ∙ v
 
   compiled-on : (cs : List Column) (slots : ℕ) (seen : List ℕ) (ls : List CompiledLevel) →
       AreCompiled ts cs slots seen ls → AreCompiled more cs slots seen ls

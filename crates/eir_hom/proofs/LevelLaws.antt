@@ -1,18 +1,22 @@
 -- How a matcher gets one more level.
-use Rattle.std.proofs.Common.{◌≡◌, ℕ, ◌+◌, ◌-◌, ◌<◌, ◌≤◌, ◌==◌, Bool, true, false, List, [], ◌∷◌, ◌++◌, map, length, take, drop, set, get_or, Some, slice_get, inl, inr, refl, ap, sym, ◌∙◌, arith}
+use Rattle.std.proofs.Common.{◌≡◌, ◌≢◌, ℕ, zero, suc, ◌+◌, ◌-◌, ◌<◌, ◌≤◌, ◌==◌, Bool, true, false, List, [], ◌∷◌, ◌++◌, map, length, take, drop, set, get_or, Some, slice_get, inl, inr, refl, ap, sym, ◌∙◌, subst, arith}
 use Rattle.std.proofs.lemmas.List.{take-append-drop, take-append-le, drop-append-le, take_at, drop_at, take_all, drop_all, length-append, length-drop, length-take-le, length-map, length_push, append-nil, map_push}
-use Rattle.std.proofs.lemmas.Option.{slice_get_within, slice_get-get_or, get_or_from_slice_get, slice_get_cases}
-use Rattle.std.proofs.lemmas.List.{get_or_append_left, get_or_past, get_or-set_same, get_or-set_other, length-set}
+use Rattle.std.proofs.lemmas.Option.{slice_get_cases}
+use Rattle.std.proofs.lemmas.List.{get_or_past, get_or-set_same, get_or-set_other, length-set}
 use borrow.Rule.Slice.PartMut.{post_of}
 use Rattle.eir_hom.specs.declared.columns.Column.{Column}
 use Rattle.eir_hom.specs.declared.tables.Range.{Range}
 use Rattle.eir_hom.specs.declared.matching.CompiledLevel.{CompiledLevel}
-use Rattle.eir_hom.specs.Tables.{TablesView, table_at}
-use Rattle.eir_hom.specs.Matching.{Level, with_number, Match}
-use Rattle.eir_hom.specs.Columns.{is_among, seen_after, bound_slots, slots_of, unmarked, AreBelow, AreColumns}
-use Rattle.eir_hom.specs.MatcherParts.{columns_at, level_in, levels_in, start_in, IsCompiled, AreCompiled, IsRangeFor, IsRange, IsMatcher}
+use Rattle.std.specs.List.{sum_by}
+use Rattle.std.proofs.lemmas.List.Sums.{sum_by_more, sum_by_more_le}
+use Rattle.eir_hom.specs.Tables.{Table, TablesView, table_at}
+use Rattle.std.proofs.lemmas.Bool.{cases_eq}
+use Rattle.eir_hom.specs.Matching.{Level, with_number, matched, Match}
+use Rattle.eir_hom.specs.Columns.{is_among, seen_after, bound_slots, slots_of, unmarked, AreBelow, AreColumns, Holds}
+use Rattle.eir_hom.specs.MatcherParts.{columns_at, level_in, levels_in, start_in, IsCompiled, AreCompiled, IsRangeFor, IsRange, IsMatcher, HasLevelRoom}
 use Rattle.eir_hom.proofs.ColumnLaws.{cases-bool, same-true, other-false}
 use Rattle.eir_hom.proofs.MatcherLaws.{holds-start, binds-start, next-level, range-is}
+use Rattle.eir_hom.proofs.MatchedLaws.{matched-more}
 use Rattle.eir_hom.proofs.ScanLaws.{seen_of}
 use Rattle.eir_hom.proofs.BuildLaws.{fresh, among-below}
 
@@ -71,42 +75,10 @@ compiled-more ts cs more slots seen (l ∷ ls) a =
 pub split-at : {X : Type 0} (xs all : List X) → take (length xs) all ≡ xs → all ≡ xs ++ drop (length xs) all
 split-at xs all e = sym (ap (λ l. l ++ drop (length xs) all) (sym e) ∙ take-append-drop (length xs) all)
 
-pub slice_get-front : {X : Type 0} (xs all : List X) (k : ℕ) (x : X) → take (length xs) all ≡ xs → k < length xs →
-    slice_get all k ≡ Some x → slice_get xs k ≡ Some x
-slice_get-front xs all k x e lt h =
-    let s = split-at xs all e in
-    let at : get_or all k x ≡ get_or xs k x = ap (λ l. get_or l k x) s ∙ get_or_append_left xs (drop (length xs) all) x k lt in
-    let read : get_or all k x ≡ x = get_or_from_slice_get all k x x h in
-    slice_get-get_or xs k x lt ∙ ap Some (sym at ∙ read)
-
--- a matcher with more room
-pub grown : (ts : TablesView) (cs all : List Column) (ls : List CompiledLevel) (given images : List ℕ)
-    (flags : List Bool) (ranges more_ranges : List Range) (placed more_placed : List ℕ) (depth : ℕ) (now : Match) →
-    seen_of ts cs ls given images placed depth ≡ now → IsMatcher ts cs ls given images flags ranges placed depth →
-    take (length cs) all ≡ cs → take (length ranges) more_ranges ≡ ranges →
-    take (length placed) more_placed ≡ placed →
-    (seen_of ts all ls given images more_placed depth ≡ now) × IsMatcher ts all ls given images flags more_ranges more_placed depth
-grown ts cs all ls given images flags ranges more_ranges placed more_placed depth now v p c r q =
-    let cols = split-at cs all c in
-    let levels : levels_in ts all ls ≡ levels_in ts cs ls = ap (λ x. levels_in ts x ls) cols ∙ levels-more ts cs (drop (length cs) all) (length images) given ls p.compiled in
-    let front : (k : ℕ) → k ≤ depth → take k more_placed ≡ take k placed = λ k le. (let within : k ≤ length placed = omega (arith, le, p.deep, p.placed_room) in ap (take k) (split-at placed more_placed q) ∙ take-append-le k placed (drop (length placed) more_placed) within) in
-    let long_ranges : length ranges ≤ length more_ranges = omega (arith, ap length (split-at ranges more_ranges r), length-append ranges (drop (length ranges) more_ranges)) in
-    let long_placed : length placed ≤ length more_placed = omega (arith, ap length (split-at placed more_placed q), length-append placed (drop (length placed) more_placed)) in (
-      rw (levels, front depth (omega arith)) v,
-      record {
-        flags_room = p.flags_room;
-        ranges_room = omega (arith, p.ranges_room);
-        placed_room = omega (arith, p.placed_room);
-        deep = p.deep;
-        given_below = p.given_below;
-        compiled = rw cols (compiled-more ts cs (drop (length cs) all) (length images) given ls p.compiled);
-        bound = rw levels p.bound;
-        stands = rw (levels, front depth (omega arith)) p.stands;
-        ranges_are = λ k l s m le a b e.
-            (let i = p.ranges_are k l s m le a (slice_get-front ranges more_ranges k s r (omega (arith, slice_get_within ls k l a, p.ranges_room)) b) (rw (levels, front k le) at e) in
-            record { rows = i.rows; within = i.within });
-      },
-    )
+slice_get-left : {X : Type 0} (xs ys : List X) (k : ℕ) → k < length xs → slice_get (xs ++ ys) k ≡ slice_get xs k
+slice_get-left [] ys k h = absurd (omega arith)
+slice_get-left (x ∷ xs) ys zero h = refl
+slice_get-left (x ∷ xs) ys (suc k) h = slice_get-left xs ys k (omega arith)
 
 pub bound_slots-push : (seen : List ℕ) (ls : List Level) (l : Level) →
     bound_slots seen (ls ++ l ∷ []) ≡ seen_after (bound_slots seen ls) l.slots
@@ -132,7 +104,7 @@ flag-below flags k h =
 
 -- the level that columns were marked for
 pub record Pushing (ts : TablesView) (cs marked : List Column) (ls : List CompiledLevel) (given images : List ℕ) (depth key table first : ℕ) (ss : List ℕ) : Type 0 where
-  pub empty : depth ≡ 0
+  pub full : depth ≡ length ls
   pub compiled : AreCompiled ts (cs ++ marked) (length images) given (ls ++ (record { key = key; table = table; first_column = first; stride = length ss }) ∷ [])
   pub levels : levels_in ts (cs ++ marked) (ls ++ (record { key = key; table = table; first_column = first; stride = length ss }) ∷ []) ≡ levels_in ts cs ls ++ (record { key = key; slots = ss; rows = (table_at ts.tables table).rows }) ∷ []
 
@@ -140,7 +112,7 @@ pub pushing : (ts : TablesView) (cs marked : List Column) (ls : List CompiledLev
     (flags : List Bool) (ranges : List Range) (placed : List ℕ) (depth : ℕ) (now : Match) (key table first : ℕ)
     (ss : List ℕ) → seen_of ts cs ls given images placed depth ≡ now →
     IsMatcher ts cs ls given images flags ranges placed depth →
-    now.placed ≡ [] → is_among key (bound_slots (map (λ p. p.0) now.start) now.levels) ≡ true →
+    length now.placed ≡ length now.levels → is_among key (bound_slots (map (λ p. p.0) now.start) now.levels) ≡ true →
     AreBelow ss now.slots → table < length now.tables → (table_at now.tables table).stride ≡ length ss →
     first ≡ length cs → slots_of marked ≡ ss →
     ((seen : List ℕ) → ((s : ℕ) → get_or flags s false ≡ is_among s seen) → AreColumns seen marked) →
@@ -164,7 +136,7 @@ pushing ts cs marked ls given images flags ranges placed depth now key table fir
       are_columns = rw (part, more) (marked_are (bound_slots given (levels_in ts cs ls)) p.bound);
     } in
     record {
-      empty = sym (length-take-le depth placed within) ∙ ap (λ s. length s.placed) v ∙ ap length none;
+      full = sym (length-take-le depth placed within) ∙ ap (λ s. length s.placed) v ∙ none ∙ sym (ap (λ s. length s.levels) v) ∙ length-map ls (level_in ts cs);
       compiled = compiled-push ts (cs ++ marked) (length images) given ls l (compiled-more ts cs marked (length images) given ls p.compiled) one;
       levels = map_push (level_in ts (cs ++ marked)) ls l ∙ rw (part, slots, more) refl;
     }
@@ -174,26 +146,83 @@ pub record Pushed (ts : TablesView) (cs marked : List Column) (ls : List Compile
   pub view : seen_of ts (cs ++ marked) (ls ++ (record { key = key; table = table; first_column = first; stride = length ss }) ∷ []) given images placed depth ≡ record now { levels = now.levels ++ (record { key = key; slots = ss; rows = (table_at now.tables table).rows }) ∷ [] }
 
 pub pushed : (ts : TablesView) (cs marked : List Column) (ls : List CompiledLevel) (given images : List ℕ)
-    (flags after_flags : List Bool) (ranges after_ranges : List Range) (placed after_placed : List ℕ) (depth : ℕ)
+    (flags after_flags : List Bool) (ranges after_ranges : List Range) (placed : List ℕ) (depth : ℕ)
     (now : Match) (key table first : ℕ) (ss : List ℕ) → seen_of ts cs ls given images placed depth ≡ now →
-    IsMatcher ts cs ls given images flags ranges placed depth →
+    (p : IsMatcher ts cs ls given images flags ranges placed depth) →
     Pushing ts cs marked ls given images depth key table first ss → length after_flags ≡ length flags →
     ((seen : List ℕ) → ((s : ℕ) → get_or flags s false ≡ is_among s seen) → (s : ℕ) → get_or after_flags s false ≡ is_among s (seen_after seen ss)) →
-    length ranges + 1 ≤ length after_ranges → length placed + 1 ≤ length after_placed →
-    ((l : CompiledLevel) (r : Range) → slice_get (ls ++ (record { key = key; table = table; first_column = first; stride = length ss }) ∷ []) 0 ≡ Some l → slice_get after_ranges 0 ≡ Some r → IsRangeFor ts l (get_or images l.key 0) r) →
-    Pushed ts cs marked ls given images after_flags after_ranges after_placed depth now key table first ss
-pushed ts cs marked ls given images flags after_flags ranges after_ranges placed after_placed depth now key table first ss v p q long bound ranges_room placed_room range =
+    length ls + 1 ≤ length after_ranges → length ls + 1 ≤ length placed →
+    ((k : ℕ) → k ≢ length ls → slice_get after_ranges k ≡ slice_get ranges k) →
+    ((l : CompiledLevel) (r : Range) → slice_get (ls ++ (record { key = key; table = table; first_column = first; stride = length ss }) ∷ []) (length ls) ≡ Some l → slice_get after_ranges (length ls) ≡ Some r → IsRangeFor ts l (get_or images l.key 0) r) →
+    Pushed ts cs marked ls given images after_flags after_ranges placed depth now key table first ss
+pushed ts cs marked ls given images flags after_flags ranges after_ranges placed depth now key table first ss v p q long bound ranges_room placed_room others range =
     let l : CompiledLevel = record { key = key; table = table; first_column = first; stride = length ss } in
+    let new : Level = record { key = key; slots = ss; rows = (table_at ts.tables table).rows } in
     let more : Match → Match = λ m. record m { levels = m.levels ++ (record { key = key; slots = ss; rows = (table_at m.tables table).rows }) ∷ [] } in
-    let none : take depth after_placed ≡ take depth placed = rw q.empty refl in
+    let start = start_in given images in
     let flagged : (s : ℕ) → get_or after_flags s false ≡ is_among s (bound_slots given (levels_in ts (cs ++ marked) (ls ++ l ∷ []))) =
     λ s. bound (bound_slots given (levels_in ts cs ls)) p.bound s ∙ ap (is_among s) (sym (ap (bound_slots given) q.levels ∙ bound_slots-push given (levels_in ts cs ls) (record { key = key; slots = ss; rows = (table_at ts.tables table).rows }))) in
-    let start : (k : CompiledLevel) (r : Range) → slice_get (ls ++ l ∷ []) 0 ≡ Some k → slice_get after_ranges 0 ≡ Some r → IsRange ts (cs ++ marked) k r (start_in given images) =
-    λ k r a b. range-is ts (cs ++ marked) (length images) (start_in given images) k images r (next-level ts (cs ++ marked) (length images) given (ls ++ l ∷ []) (start_in given images) [] (start_in given images) k q.compiled (binds-start given images) refl a) (holds-start given images) (range k r a b) in
+    let short : (k : ℕ) → k ≤ depth → length (take k placed) ≤ length (levels_in ts cs ls) =
+    λ k le. omega (arith, length-take-le k placed (omega (arith, le, p.deep, p.placed_room)), length-map ls (level_in ts cs), le, p.deep) in
+    let same : (k : ℕ) → k ≤ depth → matched (levels_in ts (cs ++ marked) (ls ++ l ∷ [])) (start_in given images) (take k placed) ≡ matched (levels_in ts cs ls) (start_in given images) (take k placed) =
+    λ k le. ap (λ x. matched x (start_in given images) (take k placed)) q.levels ∙ matched-more (levels_in ts cs ls) ((record { key = key; slots = ss; rows = (table_at ts.tables table).rows }) ∷ []) (start_in given images) (take k placed) (short k le) in
     record {
-      holds = fresh ts (cs ++ marked) (ls ++ l ∷ []) given images after_flags after_ranges after_placed depth q.empty (long ∙ p.flags_room) (omega (arith, length_push ls l, p.ranges_room)) (omega (arith, length_push ls l, p.placed_room)) p.given_below q.compiled flagged start;
-      view = rw (q.levels, none) (ap more v);
+      holds = record {
+        flags_room = long ∙ p.flags_room;
+        ranges_room = omega (arith, length_push ls l, ranges_room);
+        placed_room = omega (arith, length_push ls l, placed_room);
+        deep = omega (arith, length_push ls l, p.deep);
+        given_below = p.given_below;
+        compiled = q.compiled;
+        bound = flagged;
+        stands = record { reached = p.stands.reached; matches = same depth (omega arith) ∙ p.stands.matches; holds = p.stands.holds };
+        ranges_are = λ k j r m le a b e.
+            (let f : matched (levels_in ts cs ls) (start_in given images) (take k placed) ≡ Some m = sym (same k le) ∙ e in
+            elim (cases_eq k (length ls)) [
+              | inl top ↦ (
+                  let nm : p.stands.reached ≡ m = (let z = sym p.stands.matches ∙ ap (λ n. matched (levels_in ts cs ls) (start_in given images) (take n placed)) (q.full ∙ sym top) ∙ f in cc) in
+                  let count : length (take k placed) ≡ length ls = length-take-le k placed (omega (arith, le, p.deep, p.placed_room)) ∙ top in
+                  let n = next-level ts (cs ++ marked) (length images) given (ls ++ l ∷ []) (start_in given images) (take k placed) m j q.compiled (binds-start given images) e (ap (slice_get (ls ++ l ∷ [])) (count ∙ sym top) ∙ a) in
+                  range-is ts (cs ++ marked) (length images) m j images r n (subst (Holds images) nm p.stands.holds) (range j r (ap (slice_get (ls ++ l ∷ [])) (sym top) ∙ a) (ap (slice_get after_ranges) (sym top) ∙ b)))
+              | inr ne ↦ (
+                  let lt : k < length ls = omega (arith, le, q.full, ne) in
+                  let i = p.ranges_are k j r m le (sym (slice_get-left ls (l ∷ []) k lt) ∙ a) (sym (others k ne) ∙ b) f in
+                  record { rows = i.rows; within = i.within })
+            ]);
+      };
+      view = rw q.levels (ap more v);
     }
+
+-- ---- room
+
+-- the columns of one more level have room
+pub columns-fit : (tables now : List Table) (levels n columns levels_room columns_room ranges placed k : ℕ) →
+    HasLevelRoom tables levels columns levels_room columns_room ranges placed → tables ≡ now → n ≡ levels → n < length now →
+    (table_at now n).stride ≡ k → columns + k ≤ columns_room
+columns-fit tables now levels n columns levels_room columns_room ranges placed k h e f lt s =
+    let next : sum_by (λ (t : Table). t.stride) (take levels tables) + k ≤ sum_by (λ (t : Table). t.stride) tables =
+    rw (e, ← f, ← s) (sum_by_more_le (λ (t : Table). t.stride) now n (record { stride = 0; rows = [] }) lt) in
+    omega (arith, next, h.columns_room, h.filled)
+
+-- and then there is room for the others
+pub room-next : (tables more now : List Table) (levels levels' n columns columns' levels_room columns_room columns_room' ranges ranges' placed k : ℕ) →
+    HasLevelRoom tables levels columns levels_room columns_room ranges placed → more ≡ tables → tables ≡ now → n ≡ levels → n < length now →
+    (table_at now n).stride ≡ k → levels' ≡ levels + 1 → columns' ≡ columns + k → columns_room ≤ columns_room' → ranges' ≡ ranges →
+    (levels_room' : ℕ) → levels_room ≤ levels_room' → HasLevelRoom more levels' columns' levels_room' columns_room' ranges' placed
+room-next tables more now levels levels' n columns columns' levels_room columns_room columns_room' ranges ranges' placed k h m e f lt s l c cr r levels_room' lr =
+    let next : sum_by (λ (t : Table). t.stride) (take (levels + 1) tables) ≡ sum_by (λ (t : Table). t.stride) (take levels tables) + k =
+    rw (e, ← f, ← s) (sum_by_more (λ (t : Table). t.stride) now n (record { stride = 0; rows = [] }) lt) in
+    rw (m, l, r) record {
+      levels_room = omega (arith, h.levels_room, lr);
+      columns_room = omega (arith, h.columns_room, cr);
+      ranges_room = h.ranges_room;
+      placed_room = h.placed_room;
+      filled = omega (arith, c, next, h.filled);
+    }
+
+pub room-kept : (tables more : List Table) (levels columns levels_room columns_room ranges ranges' placed placed' : ℕ) → more ≡ tables → ranges' ≡ ranges → placed' ≡ placed →
+    HasLevelRoom tables levels columns levels_room columns_room ranges placed → HasLevelRoom more levels columns levels_room columns_room ranges' placed'
+room-kept tables more levels columns levels_room columns_room ranges ranges' placed placed' e f g h = rw (e, f, g) h
 
 pub marked-length : (old all marked : List Column) (ss : List ℕ) (first : ℕ) → all ≡ old ++ map unmarked ss →
     first ≡ length old → slots_of marked ≡ ss →

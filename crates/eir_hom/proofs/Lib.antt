@@ -32,3 +32,6 @@ pub mod ImageLaws
 pub mod CompileLaws
 pub mod PushLaws
 pub mod DraftingLaws
+pub mod CourseLaws
+pub mod RoomLaws
+pub mod LazyLaws

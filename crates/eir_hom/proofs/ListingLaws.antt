@@ -2,6 +2,7 @@
 -- all homomorphisms, and as many tries as they need; `listing-next`: what is true of a listing stays so; and `found-hom`:
 -- the images that were written are the homomorphism at the list that was told.
 use Rattle.std.proofs.Common.{◌≡◌, ℕ, zero, suc, ◌+◌, ◌<◌, ◌≤◌, ◌⊎◌, true, List, [], ◌∷◌, ◌++◌, Option, Some, None, IsSome, map, length, get_or, slice_get, unwrap_or, inl, inr, arith, refl, sym, ap, ap₂, subst, ◌∙◌, length-append, take, replicate, eq-or-lt_of_le}
+use Rattle.std.specs.Prelude.{Result, IfOk}
 use Rattle.std.proofs.lemmas.List.{map-append, length-map}
 use Rattle.std.specs.List.{range_with_len}
 use Rattle.std.proofs.lemmas.Option.{none-some, same_Some, slice_get-get_or, slice_get_within}
@@ -222,3 +223,8 @@ take-fresh (y ∷ xs) (suc n) x d at (inr i) = take-fresh xs n x d.1 at i
 -- a pair of the next value was put
 pub domain-next : (h : List (Val × Val)) (vs : List Val) (n : ℕ) (v w : Val) → domain_of h ≡ take n vs → slice_get vs n ≡ Some v → domain_of (h ++ (v, w) ∷ []) ≡ take (suc n) vs
 domain-next h vs n v w e at = map-append (λ (p : Val × Val). p.0) h ((v, w) ∷ []) ∙ ap (λ us. us ++ v ∷ []) e ∙ sym (take-slice_get vs n v at)
+
+-- a listing that begins between these facts begins between equal ones
+pub begun-same : (A K B L : List Fact) {E : Type 0} (start : List (Val × Val)) (r : Result Progress E) → A ≡ K → B ≡ L →
+    IfOk r (λ h. h ≡ begun A B start) → IfOk r (λ h. h ≡ begun K L start)
+begun-same A K B L start r e f h = subst (λ F. IfOk r (λ h. h ≡ begun F L start)) e (subst (λ F. IfOk r (λ h. h ≡ begun A F start)) f h)

@@ -139,3 +139,15 @@ slice_get-rows xs n r k lt =
     let zero_more : 0 + k ≡ k = omega arith in
     let at : slice_get (range_with_len 0 r.count) k ≡ Some k = slice_get-get_or (range_with_len 0 r.count) k 0 long ∙ ap Some (get_or-range_with_len 0 r.count k 0 lt ∙ zero_more) in
     slice_get-map (λ c. take n (drop (r.first + c * n) xs)) (range_with_len 0 r.count) k ∙ rw at refl
+
+-- levels behind those that are placed change nothing
+pub matched-more : (ls more : List Level) (m : Bindings) (cs : List ℕ) → length cs ≤ length ls → matched (ls ++ more) m cs ≡ matched ls m cs
+matched-more ls more m [] h = refl
+matched-more [] more m (c ∷ cs) h = absurd (omega arith)
+matched-more (l ∷ ls) more m (c ∷ cs) h = elim (cases-option (slice_get (rows_at l m) c)) [
+  | inl none ↦ rw none refl
+  | inr (row, some) ↦ elim (cases-option (bind_row m l.slots row)) [
+    | inl none ↦ rw (some, none) refl
+    | inr (n, there) ↦ rw (some, there) (matched-more ls more n cs (omega arith))
+  ]
+]

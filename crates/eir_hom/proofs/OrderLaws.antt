@@ -1,5 +1,5 @@
 -- The plan as it is made: the columns of the facts, the views, and what is listed next.
-use Rattle.std.proofs.Common.{◌≡◌, ℕ, zero, suc, ◌+◌, ◌-◌, ◌<◌, ◌≤◌, ◌==◌, inl, inr, Bool, true, false, ◌&&◌, List, [], ◌∷◌, ◌++◌, map, filter, length, get_or, take, drop, Option, Some, None, option_map, slice_get, refl, sym, ◌∙◌, ap, ap₂, subst, arith, eq-eqb, ne_eqb, unwrap_or, append_assoc, append-nil, length-append}
+use Rattle.std.proofs.Common.{◌≡◌, ℕ, zero, suc, ◌+◌, ◌-◌, ◌<◌, ◌≤◌, ◌==◌, inl, inr, Bool, true, false, ◌&&◌, List, [], ◌∷◌, ◌++◌, map, filter, length, get_or, take, drop, Option, Some, None, option_map, slice_get, refl, sym, ◌∙◌, ap, ap₂, subst, arith, eq-eqb, ne_eqb, unwrap_or, append_assoc, length-append}
 use Rattle.std.proofs.Math.ListN.{set}
 use Rattle.std.proofs.Math.Seq.{drop-cons, map-set_same, get_or-append_right}
 use Rattle.std.proofs.lemmas.Bool.{cases_Bool, cases_lt}
@@ -253,11 +253,6 @@ plan-more A B start order ss p views is so_far =
     let free = free_places (set ss p (listed (seat_at ss p))) in
     so_far ∙ ap (λ ps. order ++ ps) (plan-next A B start (facts_at A order) ss p views is) ∙ sym (append_assoc order (p ∷ []) (plan_from A B start (length free) (facts_at A order ++ facts_at A (p ∷ [])) free))
     ∙ ap (λ fs. (order ++ p ∷ []) ++ plan_from A B start (length free) fs free) (sym (filter_map-append (slice_get A) order (p ∷ [])))
-
--- where none is free, the plan is done
-pub plan-done : (A B : List Fact) (start : List (Val × Val)) (order : List ℕ) (ss : List Seat) → free_places ss ≡ [] →
-    plan A B start ≡ order ++ plan_from A B start (length (free_places ss)) (facts_at A order) (free_places ss) → order ≡ plan A B start
-plan-done A B start order ss none so_far = sym (so_far ∙ ap (λ ps. order ++ plan_from A B start (length ps) (facts_at A order) ps) none ∙ append-nil order)
 
 -- ---- seats
 

@@ -2,7 +2,7 @@
 use Rattle.std.proofs.Common.{◌≡◌, ◌<◌, ℕ, zero, suc, true, List, [], ◌∷◌, ◌++◌, map, take, drop, length, get_or, Option, Some, None, ap, ◌∙◌, subst, drop-cons, arith}
 use Rattle.eir_term.specs.declared.fact.Fact.{Fact}
 use Rattle.eir_term.specs.Instances.{values}
-use Rattle.eir_hom.specs.declared.compile.Draft.{Draft}
+use Rattle.eir_hom.specs.Compiling.{Draft}
 use Rattle.eir_hom.specs.FactRows.{numbers_at, row_at}
 use Rattle.eir_hom.specs.Groups.{AllUnder}
 use Rattle.eir_hom.specs.Levels.{but_at}

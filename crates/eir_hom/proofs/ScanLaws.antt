@@ -13,7 +13,7 @@ use Rattle.eir_hom.proofs.MatcherLaws.{turned, columns-length, columns-part, wid
 
 -- what a contract sees of the parts
 abbrev pub seen_of : TablesView → List Column → List CompiledLevel → List ℕ → List ℕ → List ℕ → ℕ → Match
-seen_of ts cs ls given images placed depth = record { slots = length images; tables = ts.tables; levels = levels_in ts cs ls; start = start_in given images; placed = take depth placed }
+seen_of ts cs ls given images placed depth = record { slots = length images; tables = ts.tables; shapes = ts.shapes; levels = levels_in ts cs ls; start = start_in given images; placed = take depth placed }
 
 pub space-kept : (ts : TablesView) (cs : List Column) (ls : List CompiledLevel) (given images after placed : List ℕ)
     (depth : ℕ) (now : Match) → seen_of ts cs ls given images placed depth ≡ now →

@@ -1,5 +1,5 @@
 -- One step of the plan: the lightest fact is listed, and its values become known.
-use Rattle.std.proofs.Common.{◌≡◌, ℕ, suc, ◌<◌, ◌≤◌, ◌==◌, ◌||◌, Bool, List, [], ◌∷◌, ◌++◌, map, length, get_or, take, drop, Some, slice_get, sym, ◌∙◌, ap, ap₂, subst, arith}
+use Rattle.std.proofs.Common.{◌≡◌, ℕ, ◌<◌, ◌≤◌, ◌==◌, ◌||◌, Bool, List, [], ◌∷◌, ◌++◌, map, length, get_or, take, drop, Some, slice_get, sym, ◌∙◌, ap, ap₂, subst, arith}
 use Rattle.std.specs.List.{list_any}
 use Rattle.std.proofs.Math.ListN.{set}
 use Rattle.std.proofs.Math.Seq.{take-append_seam}
@@ -9,15 +9,16 @@ use Rattle.eir_term.specs.declared.val.Val.{Val}
 use Rattle.eir_term.specs.declared.fact.Fact.{Fact}
 use Rattle.eir_term.specs.Instances.{values}
 use Rattle.eir_term.specs.Bind.{facts_at}
-use Rattle.eir_term.specs.Plans.{plan_from, plan}
+use Rattle.eir_term.specs.Plans.{plan_from}
 use Rattle.eir_hom.specs.declared.atom_view.AtomView.{AtomView}
 use Rattle.eir_hom.specs.declared.front.Seat.{Seat}
 use Rattle.eir_hom.specs.declared.occurrences.Column.{Column}
 use Rattle.eir_hom.specs.Views.{view_of}
 use Rattle.eir_hom.specs.Occurring.{column_at, is_marked, columns_at, columns_of, AreMarked}
 use Rattle.eir_hom.specs.Fronts.{seat_at, listed, seated, free_places, IsLightestFree}
+use Rattle.eir_hom.specs.Courses.{IsListed}
 use Rattle.eir_hom.proofs.MarkLaws.{Row, args-values, place_of-below, marked-more}
-use Rattle.eir_hom.proofs.FrontLaws.{free-seated, length-listed}
+use Rattle.eir_hom.proofs.FrontLaws.{free-seated}
 use Rattle.eir_hom.proofs.OrderLaws.{origin, columns-count, view-at, counted, viewed, listed-views, facts-more, plan-more}
 use Rattle.std.proofs.lemmas.Option.{slice_get_within}
 
@@ -35,13 +36,7 @@ columns-numbered A cs is k l =
 pub as-many : (A B : List Fact) (start : List (Val × Val)) (seen : List Fact) (ss : List Seat) → map (λ s. s.view) ss ≡ map (view_of B start seen) A → length ss ≡ length A
 as-many A B start seen ss views = sym (length-map ss (λ s. s.view)) ∙ ap length views ∙ length-map A (view_of B start seen)
 
--- what the loop keeps
-pub record Stands (A B : List Fact) (start : List (Val × Val)) (known : List Bool) (ss : List Seat) (so_far : List ℕ) : Type 0 where
-  pub views : map (λ s. s.view) ss ≡ map (view_of B start (facts_at A so_far)) A
-  pub marks : AreMarked (values A) start (facts_at A so_far) known
-  pub order : plan A B start ≡ so_far ++ plan_from A B start (length (free_places ss)) (facts_at A so_far) (free_places ss)
-
-module _ (A B : List Fact) (start : List (Val × Val)) (known : List Bool) (ss : List Seat) (order : List ℕ) (stands : Stands A B start known ss order)
+module _ (A B : List Fact) (start : List (Val × Val)) (known : List Bool) (ss : List Seat) (order : List ℕ) (stands : IsListed A B start known ss order)
     (cs : List Column) (cols : cs ≡ columns_of A) (p : ℕ) (is : IsLightestFree ss p) (ns : List Seat) (now : ns ≡ set ss p (listed (seat_at ss p))) where
   pub place-within : p < length A
   place-within = let long = as-many A B start (facts_at A order) ss stands.views in let l = is.within in omega arith
@@ -71,18 +66,10 @@ module _ (A B : List Fact) (start : List (Val × Val)) (known : List Bool) (ss :
   pub now-counted : (marked : List Bool) → marked ≡ known → ns ≡ seated cs marked ns
   now-counted marked same = counted A B start (facts_at A order) known ns now-views stands.marks ∙ ap₂ (λ (ds : List Column) (bs : List Bool). seated ds bs ns) (sym cols) (sym same)
 
-  -- one fact fewer is to be listed
-  pub now-fewer : (marked : List Bool) (ms : List Seat) → ms ≡ seated cs marked ns → suc (length (free_places ms)) ≤ length (free_places ss)
-  now-fewer marked ms made =
-      let free : free_places ms ≡ free_places (set ss p (listed (seat_at ss p))) = ap free_places made ∙ free-seated cs marked ns ∙ ap free_places now in
-      let e = ap length free in
-      let shorter = length-listed ss p is.within is.free in
-      omega arith
-
   -- and the plan goes on
   pub now-stands : (row : List ℕ) → Row A p row → (old marked : List Bool) → old ≡ known → length marked ≡ length old →
       ((n : ℕ) → n < length old → is_marked marked n ≡ (is_marked old n || list_any (λ u. n == u) row)) → (ms : List Seat) → ms ≡ seated cs marked ns →
-      (more : List ℕ) → more ≡ order ++ p ∷ [] → (kept : List Bool) → kept ≡ marked → Stands A B start kept ms more
+      (more : List ℕ) → more ≡ order ++ p ∷ [] → (kept : List Bool) → kept ≡ marked → IsListed A B start kept ms more
   now-stands row read old marked same long marks ms made more is_more kept is_kept =
       let facts = ap (facts_at A) is_more ∙ facts-more A order p read.fact read.there in
       let marked_now : AreMarked (values A) start (facts_at A order ++ read.fact ∷ []) marked =

@@ -1,6 +1,6 @@
 -- The rows of a table are those of the facts that a fact may go to.
 use Rattle.std.proofs.Common.{◌≡◌, ◌<◌, ◌≤◌, ℕ, zero, suc, ◌+◌, ◌*◌, Bool, true, false, cond, eqb, ◌==◌, ◌&&◌, List, [], ◌∷◌, ◌++◌, map, filter, take, drop, length, get_or, Option, Some, None, option_map, unwrap_or, slice_get, refl, sym, ap, ap₂, ◌∙◌, subst, inl, inr, add-one, append-nil, mul-le-mul_right, arith}
-use Rattle.std.proofs.lemmas.List.{get_or-map, get_or-take, map-append, take-map, drop-map, take_more, length-map, length-append, length-take, length-drop, length_push}
+use Rattle.std.proofs.lemmas.List.{get_or-map, get_or-take, map-append, take-map, drop-map, take_more, length-map, length-append, length-take, length-drop, length_push, take-take}
 use Rattle.std.proofs.lemmas.List.Sums.{sum_by-drop_more}
 use Rattle.std.proofs.lemmas.List.FromFn.{length-map-range_with_len, sum_by-map-range_with_len_more}
 use Rattle.std.proofs.lemmas.List.Elements.{filter-append}
@@ -18,12 +18,12 @@ use Rattle.eir_term.proofs.ListLaws.{slice_get-place_of, ∈-filter_from, ∈-ma
 use Rattle.eir_hom.specs.Tables.{Table, LaidView}
 use Rattle.eir_term.proofs.HomLaws.{∈-values}
 use Rattle.eir_hom.specs.declared.fits.Fits.{Fits}
-use Rattle.eir_hom.specs.declared.stock.Shape.{Shape}
+use Rattle.eir_hom.specs.declared.course.Shape.{Shape}
 use Rattle.eir_hom.specs.declared.stock.Bench.{Bench}
 use Rattle.eir_hom.specs.Levels.{number, but_at, may_go, has_number, row_of, rows_for}
 use Rattle.eir_hom.specs.FactRows.{numbers_at, row_at, Within, HaveRows}
 use Rattle.eir_hom.specs.Groups.{AllUnder, picked, under}
-use Rattle.eir_hom.specs.Fits.{are_fits, fits_row}
+use Rattle.eir_hom.specs.Fits.{are_fits, fits_row, AreFits}
 use Rattle.eir_hom.specs.Stocks.{fact_table, shape_table, no_table, rel_of, IsShape, AreShapes, may_be_at, key_at, key_count, cells_for, cells_needed, ranges_needed, HasRoom, IsStocked}
 use Rattle.eir_hom.proofs.Tallies.{map-range-same, AllUnder-at, under-zero, under-more, under-le, length-picked}
 use Rattle.eir_hom.proofs.FitLaws.{AllUnder-∈, map-map, eqb-apart}
@@ -429,3 +429,23 @@ module _ (A B : List Fact) (fits : Fits) (ss : List Shape) (laid : LaidView) (be
           tables_room = omega (arith, so.tables_room);
           bench_room = room;
         }
+
+-- what is kept twice is kept
+pub kept-more : (xs ys zs : List ℕ) → take (length xs) ys ≡ xs → take (length ys) zs ≡ ys → take (length xs) zs ≡ xs
+kept-more xs ys zs a b =
+    let le : length xs ≤ length ys = omega (arith, ap length a, length-take (length xs) ys) in
+    sym (take-take (length xs) (length ys) zs le) ∙ ap (take (length xs)) b ∙ a
+
+-- a stock of which nothing is laid
+pub nothing-laid : (A B : List Fact) (fits : Fits) (ss : List Shape) (laid : LaidView) (bench : Bench) (cells ranges tables : ℕ) → AreFits A B fits → AreShapes A ss →
+    laid ≡ record { cells = []; tables = []; ranges = 0; cells_room = cells; ranges_room = ranges; tables_room = tables } →
+    cells_needed A B ss ≤ cells → ranges_needed B ss ≤ ranges → length ss ≤ tables → HasRoom B bench → IsStocked A B fits ss laid bench
+nothing-laid A B fits ss laid bench cells ranges tables f s e c r t b = rw e (record {
+  answers = f;
+  shapes = s;
+  tables = refl;
+  cells_room = omega (arith, c);
+  ranges_room = omega (arith, r);
+  tables_room = t;
+  bench_room = b;
+})

@@ -1,25 +1,30 @@
 -- What a problem in numbers is made from (this project's own).
+--   Draft                     == a level before it is compiled
 --   given_image B start v     == the number of the image of v, where the start gives v or v is fixed
 --   first_set known p ns      == the first column, counted on from p, whose number is marked
 --   marked known ns           == these flags with these numbers marked
 --   shapes_by A known ps      == the shapes of the facts at these places, in this order
 --   drafts_of n ss            == the drafts of levels with these shapes, each with a table of its own, counted on from n
 --   AreDrafts A B tables ds ss == each draft has one of these shapes, and names a table of its shape
-use Rattle.std.specs.Prelude.{◌≡◌, ℕ, suc, ◌<◌, ◌==◌, Bool, false, true, cond, List, [], ◌∷◌, take, drop, length, Option, Some, None, slice_index, slice_index_or, slice_set}
+use Rattle.std.specs.Prelude.{◌≡◌, ℕ, suc, ◌<◌, ◌==◌, Bool, false, true, cond, List, [], ◌∷◌, length, Option, Some, None, slice_index, slice_index_or, slice_set}
 use Rattle.eir_term.specs.declared.val.Val.{Val}
 use Rattle.eir_term.specs.declared.fact.Fact.{Fact}
 use Rattle.eir_term.specs.Values.{is_fixed}
 use Rattle.eir_term.specs.Instances.{values}
 use Rattle.eir_term.specs.Maps.{image}
 use Rattle.eir_term.specs.Plans.{is_known}
-use Rattle.eir_hom.specs.declared.stock.Shape.{Shape}
-use Rattle.eir_hom.specs.declared.compile.Draft.{Draft}
+use Rattle.eir_hom.specs.declared.course.Shape.{Shape}
 use Rattle.eir_hom.specs.Levels.{number}
 use Rattle.eir_hom.specs.FactRows.{numbers_at, row_at}
 use Rattle.eir_hom.specs.Matching.{Bindings, Level}
 use Rattle.eir_hom.specs.Columns.{is_among, seen_after}
 use Rattle.eir_hom.specs.Tables.{Table}
 use Rattle.eir_hom.specs.Stocks.{no_table, shape_table, IsShape}
+
+-- a level before it is compiled: its shape, and the number of its table
+pub record Draft : Type 0 where
+  pub shape : Shape
+  pub table : ℕ
 
 -- the number of the image of v, where the start gives v or v is fixed
 abbrev pub given_image : List Fact → List (Val × Val) → Val → Option ℕ
@@ -98,10 +103,3 @@ abbrev pub AreReadyDrafts : List Fact → List Table → List ℕ → List Draft
 AreReadyDrafts A tables seen [] = Unit {0}
 AreReadyDrafts A tables seen (d ∷ ds) =
     IsShape A d.shape × (d.table < length tables) × ((slice_index_or tables d.table no_table).stride ≡ length (row_at A d.shape.column d.shape.place)) × (is_among (draft_level A tables d).key seen ≡ true) × AreReadyDrafts A tables (seen_after seen (row_at A d.shape.column d.shape.place)) ds
-
--- how far the drafts are made: the first i, where these flags are set
-pub record AreDrafted (A : List Fact) (made : List Shape) (ds : List Draft) (ss : List Shape) (known : List Bool) (i : ℕ) (plan : List ℕ) : Type 0 where
-  pub shapes : made ≡ take i ss
-  pub drafts : ds ≡ drafts_of 0 made
-  pub rest : drop i ss ≡ shapes_by A known (drop i plan)
-  pub flags : length known ≡ length (values A)

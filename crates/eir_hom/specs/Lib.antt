@@ -2,6 +2,7 @@
 pub mod Views
 pub mod Races
 pub mod Occurring
+pub mod Counts
 pub mod Fronts
 pub mod Tables
 pub mod Groups
@@ -14,5 +15,7 @@ pub mod Levels
 pub mod Progress
 pub mod Listings
 pub mod Compiling
+pub mod Courses
+pub mod Lazy
 pub mod FactRows
 pub mod Stocks

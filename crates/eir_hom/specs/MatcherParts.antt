@@ -8,12 +8,14 @@
 --   IsRangeFor ts l w r         == the range has the rows of the level's table for a number
 --   IsRange ts l level r m      == the range has the rows of the level after m
 --   Stands ls start placed images  == the bindings after what is placed, and that their numbers are kept
+--   HasLevelRoom ts ..          == there is room for a level for each table
 --   IsMatcher ts cs ls given images flags ranges placed depth  == all this of the parts of a matcher
 use Rattle.std.specs.Prelude.{◌≡◌, ℕ, ◌+◌, ◌*◌, ◌<◌, ◌≤◌, Bool, true, false, List, [], ◌∷◌, map, length, take, drop, get_or, slice_get, Some}
+use Rattle.std.specs.List.{sum_by}
 use Rattle.eir_hom.specs.declared.columns.Column.{Column}
 use Rattle.eir_hom.specs.declared.tables.Range.{Range}
 use Rattle.eir_hom.specs.declared.matching.CompiledLevel.{CompiledLevel}
-use Rattle.eir_hom.specs.Tables.{TablesView, table_at, rows_in}
+use Rattle.eir_hom.specs.Tables.{Table, TablesView, table_at, rows_in}
 use Rattle.eir_hom.specs.Matching.{Level, Bindings, rows_at, matched}
 use Rattle.eir_hom.specs.Columns.{is_among, seen_after, bound_slots, slots_of, AreBelow, AreColumns, Holds}
 
@@ -63,6 +65,14 @@ pub record Stands (ls : List Level) (start : Bindings) (placed images : List ℕ
   pub reached : Bindings
   pub matches : matched ls start placed ≡ Some reached
   pub holds : Holds images reached
+
+-- there is room for a level for each table: for the level and its columns, its range and its choice
+pub record HasLevelRoom (tables : List Table) (levels columns levels_capacity columns_capacity ranges placed : ℕ) : Type 0 where
+  pub levels_room : length tables ≤ levels_capacity
+  pub columns_room : sum_by (λ t. t.stride) tables ≤ columns_capacity
+  pub ranges_room : length tables ≤ ranges
+  pub placed_room : length tables ≤ placed
+  pub filled : columns ≡ sum_by (λ t. t.stride) (take levels tables)
 
 -- the parts of a matcher: there is room, each level is compiled, the flags say what is bound, the images are those after
 -- what is placed, and the ranges up to the next level have its rows

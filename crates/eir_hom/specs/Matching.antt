@@ -13,6 +13,7 @@
 use Rattle.std.specs.Prelude.{ℕ, ◌==◌, cond, List, [], ◌∷◌, ◌++◌, map, length, get_or, Option, Some, None, is_some, option_and_then, unwrap_or, slice_get}
 use Rattle.eir_search.specs.Spaces.{Space}
 use Rattle.eir_hom.specs.Tables.{Table}
+use Rattle.eir_hom.specs.declared.course.Shape.{Shape}
 
 -- one level: the slot whose number picks the rows, the slots that a row binds, and the rows by that number
 pub record Level : Type 0 where
@@ -74,11 +75,12 @@ match_space ls m = record {
 abbrev pub with_number : Bindings → ℕ → ℕ → Bindings
 with_number m s w = map (λ p. (p.0, cond (p.0 == s) w p.1)) m
 
--- what a contract sees of a matcher: how many slots it has and its tables, its levels, the bindings at the start, and the
+-- what a contract sees of a matcher: how many slots it has, its tables and their shapes, its levels, the bindings at the start, and the
 -- choices that are placed
 pub record Match : Type 0 where
   pub slots : ℕ
   pub tables : List Table
+  pub shapes : List Shape
   pub levels : List Level
   pub start : Bindings
   pub placed : List ℕ

@@ -3,6 +3,7 @@
 --   IsShape A s          == the shape is that of a fact, which has the column
 --   may_be_at A B t s    == the places of the facts that the fact of a shape may go to
 --   key_at B i p         == the number at the column of the fact at a place
+--   row_length A s       == how many numbers a row of a table has
 --   cells_for A B s      == how many cells a table has at most; cells_needed those of many together
 --   ranges_needed B ss   == how many ranges the tables of these shapes have
 --   HasRoom B bench      == a bench has room for the facts of B
@@ -13,10 +14,10 @@ use Rattle.eir_term.specs.declared.fact.Fact.{Fact}
 use Rattle.eir_term.specs.Lists.{places}
 use Rattle.eir_term.specs.Instances.{values}
 use Rattle.eir_hom.specs.declared.fits.Fits.{Fits}
-use Rattle.eir_hom.specs.declared.stock.Shape.{Shape}
+use Rattle.eir_hom.specs.declared.course.Shape.{Shape}
 use Rattle.eir_hom.specs.declared.stock.Bench.{Bench}
 use Rattle.eir_hom.specs.Levels.{but_at, rows_for}
-use Rattle.eir_hom.specs.FactRows.{IsPlace, numbers_at}
+use Rattle.eir_hom.specs.FactRows.{IsPlace, numbers_at, row_at}
 use Rattle.eir_hom.specs.Tables.{Table, LaidView}
 use Rattle.eir_hom.specs.Fits.{fits_row, AreFits}
 
@@ -63,6 +64,10 @@ key_at B i p = key_in i (numbers_at B p)
 abbrev pub key_count : List Fact → Option ℕ → ℕ
 key_count B None = 1
 key_count B (Some i) = length (values B) + 1
+
+-- how many numbers a row of a table has
+abbrev pub row_length : List Fact → Shape → ℕ
+row_length A s = length (row_at A s.column s.place)
 
 -- how many cells a table has at most: as many rows as B has facts
 abbrev pub cells_for : List Fact → List Fact → Shape → ℕ

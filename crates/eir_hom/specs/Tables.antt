@@ -1,6 +1,6 @@
 -- Rows of numbers in flat memory (this project's own).
 --   Table                       == rows of one length, key by key
---   TablesView                  == what a contract sees of tables: the cells that rows lie in, and the tables
+--   TablesView                  == what a contract sees of tables: the cells that rows lie in, the tables, and their shapes
 --   LaidView                    == what a contract sees of tables that are laid: also how many ranges they have, and for
 --                                  how many cells, ranges and tables there is room
 --   rows_in cells stride range  == the rows that a range of cells has
@@ -8,6 +8,7 @@
 use Rattle.std.specs.Prelude.{ℕ, ◌+◌, ◌*◌, List, [], map, take, drop, slice_index_or}
 use Rattle.std.specs.List.{range_with_len}
 use Rattle.eir_hom.specs.declared.tables.Range.{Range}
+use Rattle.eir_hom.specs.declared.course.Shape.{Shape}
 
 -- rows of one length, key by key
 pub record Table : Type 0 where
@@ -18,6 +19,7 @@ pub record Table : Type 0 where
 pub record TablesView : Type 0 where
   pub cells : List ℕ
   pub tables : List Table
+  pub shapes : List Shape
 
 -- what a contract sees of tables that are laid
 pub record LaidView : Type 0 where

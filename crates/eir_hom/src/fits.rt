@@ -6,7 +6,7 @@ ghost use Rattle.eir_hom.specs.Fits.{AreFits, are_fits, fits_row};
 ghost use Rattle.eir_hom.specs.Groups.{AllUnder};
 
 use crate::Guard;
-use eir_inst::{Instance, Profile};
+use eir_inst::{Indexed, Profile};
 use eir_term::Memory;
 use std::alloc::Global;
 use std::marker::Model;
@@ -40,8 +40,8 @@ impl Fits {
     pub(crate) fn new(
         alloc: Global,
         guard: &Guard,
-        a: &Instance,
-        b: &Instance,
+        a: &Indexed,
+        b: &Indexed,
     ) -> Result<Fits, Memory>
         ensures { IfOk result (AreFits a.now.facts b.now.facts) }
     {
@@ -53,7 +53,7 @@ impl Fits {
     }
 
     /// Whether each value of the one row may go to the one at its column of the other.
-    pub(crate) fn pass(&self, a: &Instance, b: &Instance, from: &[usize], to: &[usize]) -> bool
+    pub(crate) fn pass(&self, a: &Indexed, b: &Indexed, from: &[usize], to: &[usize]) -> bool
         requires fits { AreFits a.now.facts b.now.facts self.now }
         requires from { AllUnder (length (values a.now.facts)) from.now }
         requires to { AllUnder (length (values b.now.facts)) to.now }

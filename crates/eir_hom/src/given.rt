@@ -6,7 +6,7 @@ ghost use Rattle.eir_term.specs.Instances as instances;
 ghost use Rattle.eir_hom.specs.declared.given.Given.{Given};
 ghost use Rattle.eir_hom.specs.Listings.{IsEntry, AreEntries};
 
-use eir_inst::Instance;
+use eir_inst::Indexed;
 use eir_term::{Map, Memory, Val};
 use std::alloc::Global;
 
@@ -19,7 +19,7 @@ pub(crate) struct Given {
 }
 
 /// The entry of a pair.
-fn entry(source: &Instance, pair: (Val, Val)) -> Given
+fn entry(source: &Indexed, pair: (Val, Val)) -> Given
     ensures { IsEntry source.now.facts pair result }
 {
     Given {
@@ -30,11 +30,7 @@ fn entry(source: &Instance, pair: (Val, Val)) -> Given
 }
 
 /// The entries of all pairs of a start.
-pub(crate) fn list_given(
-    alloc: Global,
-    source: &Instance,
-    start: &Map,
-) -> Result<Vec<Given>, Memory>
+pub(crate) fn list_given(alloc: Global, source: &Indexed, start: &Map) -> Result<Vec<Given>, Memory>
     ensures { IfOk result (λ given. AreEntries source.now.facts start.now given.items) }
 {
     let mut given = Vec::new(alloc);
@@ -48,7 +44,7 @@ pub(crate) fn list_given(
 /// it changes one. A pair that is there already costs a comparison.
 pub(crate) fn renew_at(
     given: &mut Vec<Given>,
-    source: &Instance,
+    source: &Indexed,
     place: usize,
     pair: (Val, Val),
 ) -> Option<usize>
@@ -70,7 +66,7 @@ pub(crate) fn renew_at(
 }
 
 /// Makes an entry that of another pair, and answers the slot whose image that changes, if there is one.
-fn renew(given: &mut Given, source: &Instance, pair: (Val, Val)) -> Option<usize>
+fn renew(given: &mut Given, source: &Indexed, pair: (Val, Val)) -> Option<usize>
     requires slot { (n : ℕ) → (given.old.slot ≡ Some n)
         ↔ (slice_get (instances.values source.now.facts) n ≡ Some given.old.name) }
     requires there { IsSome given.old.slot ↔ (given.old.name ∈ instances.values source.now.facts) }

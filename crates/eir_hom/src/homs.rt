@@ -5,17 +5,18 @@ ghost use Rattle.eir_term.specs.Lists.{◌∈◌};
 ghost use Rattle.eir_term.specs.Instances as instances;
 ghost use Rattle.eir_term.specs.Maps.{domain_of, image_at};
 ghost use Rattle.eir_term.specs.Order.{KeepsFixed};
-ghost use Rattle.eir_term.specs.Plans.{plan};
 ghost use Rattle.eir_term.specs.Search as all;
 ghost use Rattle.eir_hom.specs.Matching.{Bindings, bound_to, matched};
+ghost use Rattle.eir_hom.specs.Courses.{shapes_of};
 
 use crate::compile::compile;
+use crate::course::Course;
 use crate::given::{Given, list_given};
-use crate::matching::Matcher;
-use crate::plan::{plan_of, plan_with};
+use crate::lazy::LazyMatcher;
+use crate::planner::Chooser;
 use crate::restart::give_start;
 use crate::{Guard, Planner};
-use eir_inst::Instance;
+use eir_inst::{Indexed, Instance};
 use eir_search::{Fuel, Search, Steps, Turn};
 use eir_term::{Map, Memory};
 use std::alloc::Global;
@@ -44,12 +45,12 @@ pub enum HomTurn {
 /// order. The instances are shared and stay as they are.
 #[derive(Drop)]
 pub struct Homs {
-    a: Rc<Instance>,
-    b: Rc<Instance>,
+    a: Rc<Indexed>,
+    b: Rc<Indexed>,
     start: Snapshot<Map>,
     given: Vec<Given>,
     map: Map,
-    search: Option<Search<Matcher>>,
+    search: Option<Search<LazyMatcher>>,
     is_found: bool,
 }
 
@@ -94,8 +95,9 @@ impl Homs {
           tries = all.need a.now.value.facts b.now.value.facts start.now;
         }) }
     {
-        let order = plan_of(alloc, a, b, start)?;
-        Homs::begin_along(alloc, &Guard::standard(), a, b, start, &order)
+        let source = a.indexed()?;
+        let target = b.indexed()?;
+        Homs::begin_between(alloc, &source, &target, start)
     }
 
     /// Begins a listing as `begin` does, with a planner and a guard of the caller's: the planner is asked for the
@@ -121,21 +123,19 @@ impl Homs {
           tries = all.need a.now.value.facts b.now.value.facts start.now;
         }) }
     {
-        let order = plan_with(alloc, planner, a, b, start)?;
-        Homs::begin_along(alloc, guard, a, b, start, &order)
+        let source = a.indexed()?;
+        let target = b.indexed()?;
+        Homs::begin_asking(alloc, planner, guard, &source, &target, start)
     }
 
-    /// Begins a listing that places the facts in this order, that of the plan.
-    fn begin_along(
+    /// Begins a listing between facts with their index.
+    fn begin_between(
         alloc: Global,
-        guard: &Guard,
-        a: &Rc<Instance>,
-        b: &Rc<Instance>,
+        a: &Rc<Indexed>,
+        b: &Rc<Indexed>,
         start: &Map,
-        order: &[usize],
     ) -> Result<Homs, Memory>
         requires fixed { KeepsFixed start.now }
-        requires plan { order.now ≡ plan a.now.value.facts b.now.value.facts start.now }
         ensures { IfOk result (λ h. h ≡ record {
           source = a.now.value.facts;
           target = b.now.value.facts;
@@ -145,7 +145,57 @@ impl Homs {
           tries = all.need a.now.value.facts b.now.value.facts start.now;
         }) }
     {
-        let matcher = compile(alloc, guard, a, b, start, order)?;
+        let course = Course::new(alloc, &Chooser::Standard, a, b, start)?;
+        Homs::begin_along(alloc, &Guard::standard(), a, b, start, course)
+    }
+
+    /// The same with a planner and a guard of the caller's.
+    fn begin_asking(
+        alloc: Global,
+        planner: &Planner,
+        guard: &Guard,
+        a: &Rc<Indexed>,
+        b: &Rc<Indexed>,
+        start: &Map,
+    ) -> Result<Homs, Memory>
+        requires fixed { KeepsFixed start.now }
+        ensures { IfOk result (λ h. h ≡ record {
+          source = a.now.value.facts;
+          target = b.now.value.facts;
+          start = start.now;
+          found = None;
+          to_come = all.homs a.now.value.facts b.now.value.facts start.now;
+          tries = all.need a.now.value.facts b.now.value.facts start.now;
+        }) }
+    {
+        let chooser = Chooser::Planned(planner);
+        let mut course = Course::new(alloc, &chooser, a, b, start)?;
+        course.list_all(&chooser, a);
+        Homs::begin_along(alloc, guard, a, b, start, course)
+    }
+
+    /// Begins a listing that places the facts in the order of this course.
+    fn begin_along(
+        alloc: Global,
+        guard: &Guard,
+        a: &Rc<Indexed>,
+        b: &Rc<Indexed>,
+        start: &Map,
+        course: Course,
+    ) -> Result<Homs, Memory>
+        requires fixed { KeepsFixed start.now }
+        requires source { course.source ≡ a.now.value.facts }
+        requires shapes { course.shapes ≡ shapes_of a.now.value.facts b.now.value.facts start.now }
+        ensures { IfOk result (λ h. h ≡ record {
+          source = a.now.value.facts;
+          target = b.now.value.facts;
+          start = start.now;
+          found = None;
+          to_come = all.homs a.now.value.facts b.now.value.facts start.now;
+          tries = all.need a.now.value.facts b.now.value.facts start.now;
+        }) }
+    {
+        let matcher = compile(alloc, guard, a, b, start, course)?;
         let given = list_given(alloc, a, start)?;
         let map = each_to_itself(alloc, a)?;
         let Ok(search) = Search::begin(alloc, matcher) else {
@@ -257,7 +307,7 @@ impl Homs {
 }
 
 /// The map that sends each value of an instance to itself.
-fn each_to_itself(alloc: Global, instance: &Instance) -> Result<Map, Memory>
+fn each_to_itself(alloc: Global, instance: &Indexed) -> Result<Map, Memory>
     ensures { IfOk result (λ m. domain_of m ≡ instances.values instance.now.facts) }
 {
     let mut map = Map::new(alloc);
@@ -268,7 +318,7 @@ fn each_to_itself(alloc: Global, instance: &Instance) -> Result<Map, Memory>
 }
 
 /// Writes the images that a search has found into a map of all values of the source.
-fn write_images(map: &mut Map, search: &Search<Matcher>, target: &Instance)
+fn write_images(map: &mut Map, search: &Search<LazyMatcher>, target: &Indexed)
     requires bound { (m : Bindings)
         → matched search.now.problem.levels search.now.problem.start search.now.choices ≡ Some m
         → (slot : ℕ) → slot < length map.old

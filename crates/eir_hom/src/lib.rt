@@ -10,9 +10,10 @@
 //! [`Planner`] and a [`Guard`] are a caller's own answers for the weight of a fact and for profiles.
 //!
 //! A search goes through numbers alone: a value of `a` is a slot, a value of `b` is the number that a slot is bound to,
-//! and the facts that a fact may go to are rows of numbers. The rows of a fact are laid when the search first comes to
-//! it, in memory that the listing took when it began. A try costs a load and a comparison; no turn takes memory or
-//! hashes, and none looks through anything but to lay rows for the first time.
+//! and the facts that a fact may go to are rows of numbers. Which fact is placed next, what its level binds and which
+//! rows it has is worked out when the search first comes there, in memory that the listing took when it began: most
+//! listings end after a few tries, so beginning is cheap. A try costs a load and a comparison; no turn takes memory or
+//! hashes, and none looks through anything but to work out a level for the first time.
 //!
 //! # What a contract sees
 //!
@@ -21,7 +22,9 @@
 //! are `homs` and `need` of `eir_term`'s `specs/Search`; what `homs` has and lacks, and in which order, is told by the
 //! laws of `eir_term`'s `proofs/SearchLaws`. A turn takes a homomorphism off where it answers `Found`.
 //!
-//! Below that a `Matcher` is seen as a `Match` of `specs/Matching`, the problem in numbers, and a `Stock` as the tables of its rows.
+//! Below that a `LazyMatcher` and a `Matcher` are seen as a `Match` of `specs/Matching`, the problem in numbers: the one
+//! with all levels, the other with those that are compiled. A `Course` is seen as the facts in plan order with their
+//! key columns, and a `Stock` as the tables of their rows.
 //! `specs/Levels` says which numbers stand for which facts; the laws of `proofs/NumberLaws` lead from these to the facts.
 //!
 //! # How a caller loops
@@ -33,6 +36,8 @@
 mod atom_view;
 mod columns;
 mod compile;
+mod counts;
+mod course;
 mod find;
 mod fits;
 mod front;
@@ -40,6 +45,7 @@ mod given;
 mod groups;
 mod guard;
 mod homs;
+mod lazy;
 mod matching;
 mod occurrences;
 mod plan;

@@ -1,5 +1,8 @@
 //! What the search goes through: rows of numbers, level by level.
-ghost use Rattle.std.specs.Prelude.{◌≡◌, ◌≢◌, ℕ, ◌+◌, ◌<◌, ◌≤◌, get_or, slice_get, ◌++◌, ◌∷◌, [], Some, None, true, length, take, map, IfOk, OnOk, OnErr};
+ghost use Rattle.std.specs.Prelude.{◌≡◌, ◌≢◌, ℕ, ◌+◌, ◌<◌, ◌≤◌, get_or, slice_get, ◌++◌, ◌∷◌, [], Some, None, true, length, take, map, IfOk, IsOk, OnOk, OnErr, vec_capacity};
+ghost use Rattle.std.specs.List.{sum_by};
+ghost use Rattle.eir_hom.specs.Levels.{but_at};
+ghost use Rattle.eir_hom.specs.FactRows.{Within};
 ghost use Rattle.eir_hom.specs.Tables.{table_at};
 ghost use Rattle.eir_hom.specs.Matching.{Bindings, bound_to, matched, match_space, with_number};
 ghost use Rattle.eir_hom.specs.declared.matching.CompiledLevel.{CompiledLevel};
@@ -8,8 +11,9 @@ ghost use Rattle.eir_hom.specs.MatcherParts.{IsRangeFor};
 ghost use Rattle.eir_hom.specs.Columns.{is_among, bound_slots, unmarked, AreBelow};
 
 use crate::columns::{Column, mark_new};
+use crate::course::Shape;
 use crate::rows::scan_rows;
-use crate::stock::Stock;
+use crate::stock::{Stock, stride_of};
 use crate::tables::Range;
 use eir_search::Problem;
 use eir_term::Memory;
@@ -33,7 +37,7 @@ struct CompiledLevel {
 /// nobody reads it until it is written anew; so no try takes memory, hashes or looks through anything but its row.
 #[derive(Drop)]
 pub(crate) struct Matcher {
-    stock: Stock,
+    stock: Box<Stock>,
     levels: Vec<CompiledLevel>,
     columns: Vec<Column>,
     ranges: Vec<Range>,
@@ -49,38 +53,80 @@ impl Model for Matcher {
 
     ghost Value = { Match };
 
-    ghost use Rattle.std.specs.Prelude.{length, take};
-    ghost use Rattle.eir_hom.specs.MatcherParts.{levels_in, start_in, IsMatcher};
+    ghost use Rattle.std.specs.Prelude.{length, take, vec_capacity};
+    ghost use Rattle.eir_hom.specs.MatcherParts.{levels_in, start_in, HasLevelRoom, IsMatcher};
 
     ghost view = { λ p. record {
       slots = length p.images.items;
-      tables = p.stock.tables;
-      levels = levels_in p.stock p.columns.items p.levels.items;
+      tables = p.stock.value.tables;
+      shapes = p.stock.value.shapes;
+      levels = levels_in p.stock.value p.columns.items p.levels.items;
       start = start_in p.given.items p.images.items;
       placed = take p.depth p.placed.items;
     } };
 
-    ghost invariant = { λ p. IsMatcher p.stock p.columns.items p.levels.items p.given.items p.images.items
-        p.is_bound.items p.ranges.items p.placed.items p.depth };
+    ghost invariant = { λ p. IsMatcher p.stock.value p.columns.items p.levels.items p.given.items p.images.items
+        p.is_bound.items p.ranges.items p.placed.items p.depth
+        × HasLevelRoom p.stock.value.tables (length p.levels.items) (length p.columns.items) (vec_capacity p.levels)
+        (vec_capacity p.columns) (length p.ranges.items) (length p.placed.items) };
 }
 
 impl Matcher {
-    /// A matcher of so many slots that has no level and binds nothing.
-    pub(crate) fn new(alloc: Global, stock: Stock, slots: usize) -> Result<Matcher, Memory>
-        ensures { IfOk result
-            (λ m. m ≡ record { slots = slots; tables = stock.tables; levels = []; start = []; placed = [] }) }
+    /// A matcher of so many slots that has no level and binds nothing, with room for so many levels, with so many columns
+    /// together: one level for each table.
+    pub(crate) fn new(
+        alloc: Global,
+        stock: Stock,
+        slots: usize,
+        levels: usize,
+        columns: usize,
+    ) -> Result<Matcher, Memory>
+        requires levels { length stock.tables ≤ levels }
+        requires columns { sum_by (λ t. t.stride) stock.tables ≤ columns }
+        ensures { IfOk result (λ m. m ≡ record {
+          slots = slots;
+          tables = stock.tables;
+          shapes = stock.shapes;
+          levels = [];
+          start = [];
+          placed = [];
+        }) }
     {
+        let range = Range { first: 0, count: 0 };
         Ok(Matcher {
-            stock,
-            levels: Vec::new(alloc),
-            columns: Vec::new(alloc),
-            ranges: Vec::new(alloc),
+            stock: Box::new(alloc, stock)?,
+            levels: Vec::with_capacity(alloc, levels)?,
+            columns: Vec::with_capacity(alloc, columns)?,
+            ranges: vec![in alloc; range; levels]?,
             images: vec![in alloc; 0usize; slots]?,
             is_bound: vec![in alloc; false; slots]?,
             given: Vec::new(alloc),
-            placed: Vec::new(alloc),
+            placed: vec![in alloc; 0usize; levels]?,
             depth: 0,
         })
+    }
+
+    /// The number of levels.
+    pub(crate) fn len(&self) -> usize
+        ensures { result ≡ length self.now.levels }
+    {
+        self.levels.len()
+    }
+
+    /// The number of levels that are placed.
+    pub(crate) fn depth(&self) -> usize
+        ensures { result ≡ length self.now.placed }
+    {
+        self.depth
+    }
+
+    /// The shape of a level that is there or is still to be pushed, by its place in plan order.
+    pub(crate) fn shape(&mut self, level: usize) -> Shape
+        requires { level < length self.old.shapes }
+        ensures same { self.new ≡ self.old }
+        ensures shape { Some result ≡ slice_get self.old.shapes level }
+    {
+        self.stock.shape(level)
     }
 
     /// Binds a slot to a number at the start.
@@ -98,44 +144,48 @@ impl Matcher {
         Ok(())
     }
 
-    /// Appends a level: the table's rows for the number of the slot `key` bind these slots. The slot `key` is bound
-    /// before.
-    pub(crate) fn push_level(
-        &mut self,
-        key: usize,
-        slots: &[usize],
-        table: usize,
-    ) -> Result<(), Memory>
-        requires placed { self.old.placed ≡ [] }
+    /// Appends a level, where all that are there are placed: the rows of its table, that after those of the other levels,
+    /// for the number of the slot `key` bind the slots of these numbers but that at the column. The slot `key` is bound
+    /// before. It takes no memory.
+    pub(crate) fn push_level(&mut self, key: usize, column: Option<usize>, numbers: &[usize])
+        requires placed { length self.old.placed ≡ length self.old.levels }
+        requires table { length self.old.levels < length self.old.tables }
+        requires column { Within column numbers.now }
         requires key { is_among key (bound_slots (map (λ p. p.0) self.old.start) self.old.levels) ≡ true }
-        requires slots { AreBelow slots.now self.old.slots }
-        requires table { table < length self.old.tables }
-        requires stride { (table_at self.old.tables table).stride ≡ length slots.now }
-        ensures ok { OnOk result (self.new ≡ record self.old {
-          levels = self.old.levels ++
-              (record { key = key; slots = slots.now; rows = (table_at self.old.tables table).rows }) ∷ [];
-        }) }
-        ensures err { OnErr result (self.new ≡ self.old) }
+        requires slots { AreBelow (but_at column numbers.now) self.old.slots }
+        requires stride { (table_at self.old.tables (length self.old.levels)).stride
+            ≡ length (but_at column numbers.now) }
+        ensures { self.new ≡ record self.old {
+          levels = self.old.levels ++ (record {
+            key = key;
+            slots = but_at column numbers.now;
+            rows = (table_at self.old.tables (length self.old.levels)).rows;
+          }) ∷ [];
+        } }
     {
+        let level = self.levels.len();
         let first_column = self.columns.len();
-        let stride = slots.len();
-        let level = CompiledLevel {
+        let stride = stride_of(column, numbers);
+        let Ok(()) = append_row(&mut self.columns, column, numbers) else {
+            unreachable!()
+        };
+        let Ok(()) = self.levels.push(CompiledLevel {
             key,
-            table,
+            table: level,
             first_column,
             stride,
+        })
+        else {
+            unreachable!()
         };
-        append_columns(&mut self.columns, slots)?;
-        append_level(&mut self.levels, &mut self.ranges, &mut self.placed, level)?;
         mark_new(&mut self.columns[first_column..], &mut self.is_bound);
         set_range(
             &mut self.stock,
             &self.levels,
             &self.images,
             &mut self.ranges,
-            0,
+            level,
         );
-        Ok(())
     }
 
     /// Gives a slot that is bound at the start another number.
@@ -225,10 +275,34 @@ impl Problem for Matcher {
     }
 }
 
-/// Appends a column for each of these slots, none of which is new so far.
+/// Appends a column for each of these numbers but that at the column, none of which is new so far. It fails only where
+/// room is missing.
+fn append_row(
+    columns: &mut Vec<Column>,
+    column: Option<usize>,
+    numbers: &[usize],
+) -> Result<(), Memory>
+    requires { Within column numbers.now }
+    ensures items { OnOk result (columns.new.items ≡ columns.old.items ++ map unmarked (but_at column numbers.now)) }
+    ensures capacity { vec_capacity columns.old ≤ vec_capacity columns.new }
+    ensures room { length columns.old.items + length (but_at column numbers.now) ≤ vec_capacity columns.old
+        → IsOk result }
+{
+    match column {
+        None => append_columns(columns, numbers)?,
+        Some(i) => {
+            append_columns(columns, &numbers[..i])?;
+            append_columns(columns, &numbers[i + 1..])?;
+        }
+    }
+    Ok(())
+}
+
+/// Appends a column for each of these slots, none of which is new so far. It fails only where room is missing.
 fn append_columns(columns: &mut Vec<Column>, slots: &[usize]) -> Result<(), Memory>
-    ensures ok { OnOk result (columns.new.items ≡ columns.old.items ++ map unmarked slots.now) }
-    ensures kept { take (length columns.old.items) columns.new.items ≡ columns.old.items }
+    ensures items { OnOk result (columns.new.items ≡ columns.old.items ++ map unmarked slots.now) }
+    ensures capacity { vec_capacity columns.old ≤ vec_capacity columns.new }
+    ensures room { length columns.old.items + length slots.now ≤ vec_capacity columns.old → IsOk result }
 {
     for &slot in slots {
         columns.push(Column {
@@ -236,26 +310,6 @@ fn append_columns(columns: &mut Vec<Column>, slots: &[usize]) -> Result<(), Memo
             is_new: false,
         })?;
     }
-    Ok(())
-}
-
-/// Appends a level, with places for its range and for its choice.
-fn append_level(
-    levels: &mut Vec<CompiledLevel>,
-    ranges: &mut Vec<Range>,
-    placed: &mut Vec<usize>,
-    level: CompiledLevel,
-) -> Result<(), Memory>
-    ensures ok { OnOk result (levels.new.items ≡ levels.old.items ++ level ∷ []) }
-    ensures err { OnErr result (levels.new.items ≡ levels.old.items) }
-    ensures ranges_room { OnOk result (length ranges.old.items + 1 ≤ length ranges.new.items) }
-    ensures ranges_kept { take (length ranges.old.items) ranges.new.items ≡ ranges.old.items }
-    ensures placed_room { OnOk result (length placed.old.items + 1 ≤ length placed.new.items) }
-    ensures placed_kept { take (length placed.old.items) placed.new.items ≡ placed.old.items }
-{
-    ranges.push(Range { first: 0, count: 0 })?;
-    placed.push(0)?;
-    levels.push(level)?;
     Ok(())
 }
 
@@ -272,6 +326,7 @@ fn set_range(
     requires parts { (l : CompiledLevel) → slice_get levels.now level ≡ Some l
         → (l.table < length stock.old.tables) × (l.key < length images.now) }
     ensures tables { stock.new.tables ≡ stock.old.tables }
+    ensures shapes { stock.new.shapes ≡ stock.old.shapes }
     ensures cells { take (length stock.old.cells) stock.new.cells ≡ stock.old.cells }
     ensures length { length ranges.new ≡ length ranges.old }
     ensures others { (k : ℕ) → k ≢ level → slice_get ranges.new k ≡ slice_get ranges.old k }

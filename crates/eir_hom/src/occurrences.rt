@@ -52,6 +52,13 @@ impl Occurrences {
         })
     }
 
+    /// The number of columns.
+    pub(crate) fn len(&self) -> usize
+        ensures { result ≡ length self.now.columns }
+    {
+        self.columns.len()
+    }
+
     /// The column at a place.
     pub(crate) fn get(&self, place: usize) -> Option<Column>
         ensures { result ≡ slice_get self.now.columns place }

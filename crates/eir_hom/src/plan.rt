@@ -8,11 +8,13 @@ ghost use Rattle.eir_hom.specs.Occurring as columns;
 ghost use Rattle.eir_hom.specs.Occurring.{columns_with, is_marked};
 ghost use Rattle.eir_hom.specs.Fronts.{AreViews, first_seat};
 
-use crate::front::{Front, Seat};
-use crate::occurrences::{Column, Occurrences};
+use crate::AtomView;
+use crate::counts::count_in;
+use crate::course::Course;
+use crate::front::Seat;
+use crate::occurrences::Column;
 use crate::planner::Chooser;
-use crate::{AtomView, Planner};
-use eir_inst::Instance;
+use eir_inst::{Indexed, Instance};
 use eir_term::{Map, Memory, Val};
 use std::alloc::Global;
 
@@ -21,47 +23,23 @@ use std::alloc::Global;
 pub fn plan_of(alloc: Global, a: &Instance, b: &Instance, start: &Map) -> Result<Vec<usize>, Memory>
     ensures { IfOk result (λ order. order.items ≡ plans.plan a.now.facts b.now.facts start.now) }
 {
-    plan_by(alloc, &Chooser::Standard, a, b, start)
+    let source = a.indexed()?;
+    let target = b.indexed()?;
+    plan_between(alloc, &source, &target, start)
 }
 
-/// The same order, by a planner that is asked for each weight.
-pub(crate) fn plan_with(
-    alloc: Global,
-    planner: &Planner,
-    a: &Instance,
-    b: &Instance,
-    start: &Map,
-) -> Result<Vec<usize>, Memory>
+/// The same of facts with their index.
+fn plan_between(alloc: Global, a: &Indexed, b: &Indexed, start: &Map) -> Result<Vec<usize>, Memory>
     ensures { IfOk result (λ order. order.items ≡ plans.plan a.now.facts b.now.facts start.now) }
 {
-    plan_by(alloc, &Chooser::Planned(planner), a, b, start)
-}
-
-/// The same order, by whoever tells the weights.
-fn plan_by(
-    alloc: Global,
-    chooser: &Chooser,
-    a: &Instance,
-    b: &Instance,
-    start: &Map,
-) -> Result<Vec<usize>, Memory>
-    ensures { IfOk result (λ order. order.items ≡ plans.plan a.now.facts b.now.facts start.now) }
-{
-    let mut known = given(alloc, a, start)?;
-    let columns = columns_of(alloc, a)?;
-    let occurrences = Occurrences::new(alloc, columns, known.len())?;
-    let seats = seats_of(alloc, a, b, start, &known)?;
-    let mut front = Front::new(alloc, chooser, seats)?;
-    let mut order = Vec::with_capacity(alloc, a.len())?;
-    while let Some(place) = front.list_lightest() {
-        order.push(place)?;
-        front.learn_all(chooser, &occurrences, &mut known, a.numbers_at(place));
-    }
-    Ok(order)
+    let mut course = Course::new(alloc, &Chooser::Standard, a, b, start)?;
+    course.list_all(&Chooser::Standard, a);
+    let places = course.places(alloc)?;
+    Ok(places)
 }
 
 /// For each value of `a`, by its number, whether it is fixed or given by the start.
-fn given(alloc: Global, a: &Instance, start: &Map) -> Result<Vec<bool>, Memory>
+pub(crate) fn given(alloc: Global, a: &Indexed, start: &Map) -> Result<Vec<bool>, Memory>
     ensures { IfOk result (λ known. known.items ≡ map (plans.is_known start.now []) (values a.now.facts)) }
 {
     let mut known = Vec::with_capacity(alloc, a.values().len())?;
@@ -73,7 +51,7 @@ fn given(alloc: Global, a: &Instance, start: &Map) -> Result<Vec<bool>, Memory>
 }
 
 /// Marks the values that are given by the start.
-fn mark_given(a: &Instance, start: &Map, known: &mut [bool])
+fn mark_given(a: &Indexed, start: &Map, known: &mut [bool])
     requires { known.old ≡ map (plans.is_known [] []) (values a.now.facts) }
     ensures { known.new ≡ map (plans.is_known start.now []) (values a.now.facts) }
 {
@@ -85,7 +63,7 @@ fn mark_given(a: &Instance, start: &Map, known: &mut [bool])
 }
 
 /// Marks a value, if it occurs.
-fn mark(a: &Instance, known: &mut [bool], value: Val)
+fn mark(a: &Indexed, known: &mut [bool], value: Val)
     requires { length known.old ≡ length (values a.now.facts) }
     ensures { known.new ≡ slice_set known.old (place_of val_eq value (values a.now.facts)) true }
 {
@@ -95,7 +73,7 @@ fn mark(a: &Instance, known: &mut [bool], value: Val)
 }
 
 /// The columns of the facts, fact by fact.
-fn columns_of(alloc: Global, a: &Instance) -> Result<Vec<Column>, Memory>
+pub(crate) fn columns_of(alloc: Global, a: &Indexed) -> Result<Vec<Column>, Memory>
     ensures { IfOk result (λ cs. cs.items ≡ columns.columns_of a.now.facts) }
 {
     let mut columns = Vec::new(alloc);
@@ -119,10 +97,10 @@ fn append_columns(columns: &mut Vec<Column>, place: usize, row: &[usize]) -> Res
 }
 
 /// The facts as they are seen while none is listed.
-fn seats_of(
+pub(crate) fn seats_of(
     alloc: Global,
-    a: &Instance,
-    b: &Instance,
+    a: &Indexed,
+    b: &Indexed,
     start: &Map,
     known: &[bool],
 ) -> Result<Vec<Seat>, Memory>
@@ -131,6 +109,7 @@ fn seats_of(
     ensures views { IfOk result (λ seats. AreViews seats.items) }
 {
     let mut seats = Vec::with_capacity(alloc, a.len())?;
+    let mut counts = [None; 16];
     for place in 0..a.len() {
         let fact = &a.as_slice()[place];
         let rel = fact.rel;
@@ -138,7 +117,7 @@ fn seats_of(
             rel,
             arity: fact.args.as_slice().len() as u32,
             bound: known_among(known, a.numbers_at(place)),
-            count: b.count_of(rel) as u64,
+            count: count_in(b, rel, &mut counts),
         };
         seats.push(Seat {
             view,

@@ -8,19 +8,19 @@ ghost use Rattle.eir_hom.specs.Levels.{bindings_of};
 ghost use Rattle.eir_hom.specs.Listings.{AreEntries};
 
 use crate::given::{Given, renew_at};
-use crate::matching::Matcher;
+use crate::lazy::LazyMatcher;
 use crate::starts::number_in;
-use eir_inst::Instance;
+use eir_inst::Indexed;
 use eir_term::Map;
 use std::snapshot::Snapshot;
 
 /// Lets a matcher whose start was that of one map begin with that of another, which names the same values of the
 /// source. An image that stands at the same place in both costs a comparison.
 pub(crate) fn give_start(
-    matcher: &mut Matcher,
+    matcher: &mut LazyMatcher,
     given: &mut Vec<Given>,
-    source: &Instance,
-    target: &Instance,
+    source: &Indexed,
+    target: &Indexed,
     was: &Snapshot<Map>,
     start: &Map,
 )

@@ -5,7 +5,7 @@ ghost use Rattle.eir_term.specs.Maps.{get};
 ghost use Rattle.eir_hom.specs.Compiling.{given_image, is_here, or_else, with_fixed};
 ghost use Rattle.eir_hom.specs.Levels.{number};
 
-use eir_inst::Instance;
+use eir_inst::Indexed;
 use eir_term::{Map, Memory, Val};
 use std::alloc::Global;
 
@@ -13,8 +13,8 @@ use std::alloc::Global;
 /// fixed. The number of an image that is no value of `b` is the number of `b`'s values.
 pub(crate) fn images_of(
     alloc: Global,
-    a: &Instance,
-    b: &Instance,
+    a: &Indexed,
+    b: &Indexed,
     start: &Map,
 ) -> Result<Vec<Option<usize>>, Memory>
     ensures { IfOk result (λ v. v.items ≡ map (given_image b.now.facts start.now) (values a.now.facts)) }
@@ -26,7 +26,7 @@ pub(crate) fn images_of(
 }
 
 /// Sets the image of each value of `a` that has one.
-fn set_all(images: &mut [Option<usize>], a: &Instance, b: &Instance, start: &Map)
+fn set_all(images: &mut [Option<usize>], a: &Indexed, b: &Indexed, start: &Map)
     requires { images.old ≡ map (λ _. None) (values a.now.facts) }
     ensures { images.new ≡ map (given_image b.now.facts start.now) (values a.now.facts) }
 {
@@ -35,7 +35,7 @@ fn set_all(images: &mut [Option<usize>], a: &Instance, b: &Instance, start: &Map
 }
 
 /// Sets the image of each value of `a` that the start names.
-fn set_given(images: &mut [Option<usize>], a: &Instance, b: &Instance, start: &Map)
+fn set_given(images: &mut [Option<usize>], a: &Indexed, b: &Indexed, start: &Map)
     requires { images.old ≡ map (λ _. None) (values a.now.facts) }
     ensures { images.new ≡ map (λ v. option_map (number b.now.facts) (get start.now v)) (values a.now.facts) }
 {
@@ -60,7 +60,7 @@ fn set_first(images: &mut [Option<usize>], value: Option<usize>, image: usize)
 }
 
 /// Sets the image of each fixed constant that has none: itself.
-fn set_fixed(images: &mut [Option<usize>], values: &[Val], b: &Instance)
+fn set_fixed(images: &mut [Option<usize>], values: &[Val], b: &Indexed)
     requires { length images.old ≡ length values.now }
     ensures { (n : ℕ) → n < length images.new → slice_index_or images.new n None
         ≡ with_fixed b.now.facts (slice_index_or images.old n None) (slice_get values.now n) }
@@ -71,7 +71,7 @@ fn set_fixed(images: &mut [Option<usize>], values: &[Val], b: &Instance)
 }
 
 /// The image, or the value itself where it has none and is fixed.
-fn image_or_itself(image: Option<usize>, value: Val, b: &Instance) -> Option<usize>
+fn image_or_itself(image: Option<usize>, value: Val, b: &Indexed) -> Option<usize>
     ensures { result ≡ with_fixed b.now.facts image (Some value) }
 {
     match image {
@@ -81,7 +81,7 @@ fn image_or_itself(image: Option<usize>, value: Val, b: &Instance) -> Option<usi
 }
 
 /// The number of a value, or the number of values where it is none of them.
-pub(crate) fn number_in(b: &Instance, value: Val) -> usize
+pub(crate) fn number_in(b: &Indexed, value: Val) -> usize
     ensures { result ≡ number b.now.facts value }
 {
     match b.number_of(value) {

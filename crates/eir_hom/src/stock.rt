@@ -1,35 +1,33 @@
 //! The tables that a search needs, each laid when it is first asked for.
-ghost use Rattle.std.specs.Prelude.{◌≡◌, ℕ, ◌+◌, ◌*◌, ◌<◌, ◌≤◌, ◌++◌, ◌∷◌, [], IfOk, IsOk, OnOk, length, map, take, slice_index_or, vec_capacity};
+ghost use Rattle.std.specs.Prelude.{◌≡◌, ℕ, ◌+◌, ◌*◌, ◌<◌, ◌≤◌, ◌++◌, ◌∷◌, [], IfOk, IsOk, OnOk, Some, length, map, take, slice_get, slice_index_or, vec_capacity};
+ghost use Rattle.std.specs.List.{sum_by};
+ghost use Rattle.eir_hom.specs.Occurring.{columns_of};
 ghost use Rattle.eir_hom.specs.Levels.{but_at};
 ghost use Rattle.eir_hom.specs.FactRows.{Within, numbers_at};
 ghost use Rattle.eir_hom.specs.Fits.{AreFits, are_fits};
 ghost use Rattle.eir_hom.specs.Tables.{rows_in, table_at};
-ghost use Rattle.eir_hom.specs.Stocks.{AreShapes, HasRoom, IsShape, IsStocked, cells_for, cells_needed, key_at, key_count, key_in, may_be_at, ranges_needed, rel_of, shape_table};
+ghost use Rattle.eir_hom.specs.Stocks.{AreShapes, HasRoom, IsShape, IsStocked, cells_for, key_at, key_count, key_in, may_be_at, rel_of, row_length, shape_table};
 
+use crate::course::{Course, Shape};
 use crate::fits::Fits;
 use crate::groups::Groups;
+use crate::planner::Chooser;
 use crate::tables::{Range, Tables};
-use eir_inst::Instance;
+use eir_inst::Indexed;
 use eir_term::Memory;
 use std::alloc::Global;
 use std::marker::Model;
 use std::rc::Rc;
 
-/// A fact of the source, by its place, and the column by which the facts that it may go to are found.
-#[derive(Clone, Copy, Debug, PartialEq, Eq)]
-pub(crate) struct Shape {
-    pub(crate) place: usize,
-    pub(crate) column: Option<usize>,
-}
-
-/// A table for each shape: the rows of the facts that the fact of the shape may go to, under the numbers at its column.
-/// A table is laid when it is first asked for, in memory that was taken when the stock was made.
+/// A table for each shape of a course: the rows of the facts that the fact of the shape may go to, under the numbers at
+/// its column. A shape is listed, and a table laid, when it is first asked for, in memory that was taken when the stock
+/// was made.
 #[derive(Drop)]
 pub(crate) struct Stock {
-    source: Rc<Instance>,
-    target: Rc<Instance>,
+    source: Rc<Indexed>,
+    target: Rc<Indexed>,
     fits: Fits,
-    shapes: Vec<Shape>,
+    course: Course,
     tables: Tables,
     bench: Bench,
 }
@@ -47,41 +45,62 @@ impl Model for Stock {
 
     ghost Value = { TablesView };
 
-    ghost use Rattle.std.specs.Prelude.{map};
+    ghost use Rattle.std.specs.Prelude.{◌≡◌, map};
     ghost use Rattle.eir_hom.specs.Stocks.{IsStocked, shape_table};
 
     ghost view = { λ s. record {
       cells = s.tables.cells;
-      tables = map (shape_table s.source.value.facts s.target.value.facts) s.shapes.items;
+      tables = map (shape_table s.source.value.facts s.target.value.facts) s.course.shapes;
+      shapes = s.course.shapes;
     } };
 
-    ghost invariant = { λ s. IsStocked s.source.value.facts s.target.value.facts s.fits s.shapes.items s.tables s.bench };
+    ghost invariant = { λ s. (s.course.source ≡ s.source.value.facts)
+        × IsStocked s.source.value.facts s.target.value.facts s.fits s.course.shapes s.tables s.bench };
 }
 
 impl Stock {
-    /// The tables of these shapes, none of which is laid, with the memory for all of them.
+    /// The tables of this course's shapes, none of which is laid, with the memory for all of them.
     pub(crate) fn new(
         alloc: Global,
-        a: &Rc<Instance>,
-        b: &Rc<Instance>,
+        a: &Rc<Indexed>,
+        b: &Rc<Indexed>,
         fits: Fits,
-        shapes: Vec<Shape>,
+        course: Course,
     ) -> Result<Stock, Memory>
         requires fits { AreFits a.now.value.facts b.now.value.facts fits }
-        requires shapes { AreShapes a.now.value.facts shapes.items }
-        ensures { IfOk result
-            (λ s. s ≡ record { cells = []; tables = map (shape_table a.now.value.facts b.now.value.facts) shapes.items }) }
+        requires source { course.source ≡ a.now.value.facts }
+        requires shapes { AreShapes a.now.value.facts course.shapes }
+        requires columns { sum_by (row_length a.now.value.facts) course.shapes ≤ length (columns_of a.now.value.facts) }
+        requires facts { length course.shapes ≡ length a.now.value.facts }
+        ensures { IfOk result (λ s. s ≡ record {
+          cells = [];
+          tables = map (shape_table a.now.value.facts b.now.value.facts) course.shapes;
+          shapes = course.shapes;
+        }) }
     {
-        let cells = count_cells(a, b, &shapes)?;
-        let ranges = count_ranges(b, &shapes)?;
+        let cells = times(b.len(), course.column_count())?;
+        let ranges = times(a.len(), b.values().len() + 1)?;
+        let tables = Tables::with_room(alloc, cells, ranges, a.len())?;
+        let bench = Bench::new(alloc, b)?;
+        let source = a.clone()?;
+        let target = b.clone()?;
         Ok(Stock {
-            source: a.clone()?,
-            target: b.clone()?,
+            source,
+            target,
             fits,
-            tables: Tables::with_room(alloc, cells, ranges, shapes.len())?,
-            shapes,
-            bench: Bench::new(alloc, b)?,
+            course,
+            tables,
+            bench,
         })
+    }
+
+    /// A shape, by its place in plan order. It lists those up to it that are not listed yet, and takes no memory.
+    pub(crate) fn shape(&mut self, index: usize) -> Shape
+        requires { index < length self.old.shapes }
+        ensures same { self.new ≡ self.old }
+        ensures shape { Some result ≡ slice_get self.old.shapes index }
+    {
+        shape_at(&mut self.course, &self.source, index)
     }
 
     /// Where the rows of a table under a key stand; the empty range for a key that the table has not. It lays the table
@@ -89,6 +108,7 @@ impl Stock {
     pub(crate) fn range(&mut self, table: usize, key: usize) -> Range
         requires { table < length self.old.tables }
         ensures tables { self.new.tables ≡ self.old.tables }
+        ensures shapes { self.new.shapes ≡ self.old.shapes }
         ensures cells { take (length self.old.cells) self.new.cells ≡ self.old.cells }
         ensures rows { rows_in self.new.cells (table_at self.old.tables table).stride result
             ≡ slice_index_or (table_at self.old.tables table).rows key [] }
@@ -99,7 +119,7 @@ impl Stock {
                 &self.source,
                 &self.target,
                 &self.fits,
-                &self.shapes,
+                &mut self.course,
                 &mut self.tables,
                 &mut self.bench,
                 table,
@@ -118,7 +138,7 @@ impl Stock {
 
 impl Bench {
     /// A bench for tables with the facts of this instance.
-    fn new(alloc: Global, b: &Instance) -> Result<Bench, Memory>
+    fn new(alloc: Global, b: &Indexed) -> Result<Bench, Memory>
         ensures { IfOk result (HasRoom b.now.facts) }
     {
         Ok(Bench {
@@ -129,74 +149,58 @@ impl Bench {
     }
 }
 
-/// How many cells the tables of these shapes have at most: as many rows as the target has facts.
-fn count_cells(a: &Instance, b: &Instance, shapes: &[Shape]) -> Result<usize, Memory>
-    requires { AreShapes a.now.facts shapes.now }
-    ensures { IfOk result (λ n. n ≡ cells_needed a.now.facts b.now.facts shapes.now) }
+/// A product; no memory has so many places where that is no number of a machine word.
+fn times(count: usize, each: usize) -> Result<usize, Memory>
+    ensures { IfOk result (λ n. n ≡ count * each) }
 {
-    let mut count = 0;
-    for shape in shapes {
-        let stride = stride_of(shape.column, a.numbers_at(shape.place));
-        count = add_times(count, b.len(), stride)?;
-    }
-    Ok(count)
-}
-
-/// How many ranges the tables of these shapes have.
-fn count_ranges(b: &Instance, shapes: &[Shape]) -> Result<usize, Memory>
-    ensures { IfOk result (λ n. n ≡ ranges_needed b.now.facts shapes.now) }
-{
-    let mut count = 0;
-    for shape in shapes {
-        count = add_times(count, 1, keys_for(shape.column, b))?;
-    }
-    Ok(count)
-}
-
-/// A number and a product together; no memory has so many places where that is no number of a machine word.
-fn add_times(count: usize, times: usize, each: usize) -> Result<usize, Memory>
-    ensures { IfOk result (λ n. n ≡ count + times * each) }
-{
-    let Some(product) = times.checked_mul(each) else {
-        return Err(Memory);
-    };
-    match count.checked_add(product) {
-        Some(sum) => Ok(sum),
+    match count.checked_mul(each) {
+        Some(product) => Ok(product),
         None => Err(Memory),
     }
 }
 
+/// The shape at an index of a course whose source is `a`; it lists those up to it that are not listed yet.
+fn shape_at(course: &mut Course, a: &Indexed, index: usize) -> Shape
+    requires source { a.now.facts ≡ course.old.source }
+    requires index { index < length course.old.shapes }
+    ensures source { course.new.source ≡ course.old.source }
+    ensures shapes { course.new.shapes ≡ course.old.shapes }
+    ensures shape { Some result ≡ slice_get course.old.shapes index }
+{
+    while course.len() <= index {
+        course.list_next(&Chooser::Standard, a);
+    }
+    course.get(index)
+}
+
 /// Lays the tables up to that of a shape, the first of those that are missing first.
 fn lay_to(
-    a: &Instance,
-    b: &Instance,
+    a: &Indexed,
+    b: &Indexed,
     fits: &Fits,
-    shapes: &[Shape],
+    course: &mut Course,
     tables: &mut Tables,
     bench: &mut Bench,
     last: usize,
 )
+    requires source { a.now.facts ≡ course.old.source }
     requires missing { length tables.old.tables ≤ last }
-    requires last { last < length shapes.now }
-    requires stocked { IsStocked a.now.facts b.now.facts fits.now shapes.now tables.old bench.old }
-    ensures stocked { IsStocked a.now.facts b.now.facts fits.now shapes.now tables.new bench.new }
+    requires last { last < length course.old.shapes }
+    requires stocked { IsStocked a.now.facts b.now.facts fits.now course.old.shapes tables.old bench.old }
+    ensures source { course.new.source ≡ course.old.source }
+    ensures shapes { course.new.shapes ≡ course.old.shapes }
+    ensures stocked { IsStocked a.now.facts b.now.facts fits.now course.old.shapes tables.new bench.new }
     ensures cells { take (length tables.old.cells) tables.new.cells ≡ tables.old.cells }
     ensures laid { last < length tables.new.tables }
 {
-    for next in tables.len()..last + 1 {
-        lay(a, b, fits, shapes[next], tables, bench);
+    while tables.len() <= last {
+        let shape = shape_at(course, a, tables.len());
+        lay(a, b, fits, shape, tables, bench);
     }
 }
 
 /// Lays the table of a shape behind the others.
-fn lay(
-    a: &Instance,
-    b: &Instance,
-    fits: &Fits,
-    shape: Shape,
-    tables: &mut Tables,
-    bench: &mut Bench,
-)
+fn lay(a: &Indexed, b: &Indexed, fits: &Fits, shape: Shape, tables: &mut Tables, bench: &mut Bench)
     requires fits { AreFits a.now.facts b.now.facts fits.now }
     requires shape { IsShape a.now.facts shape }
     requires room { HasRoom b.now.facts bench.old }
@@ -224,7 +228,7 @@ fn lay(
 }
 
 /// The length of a row but for the column.
-fn stride_of(column: Option<usize>, numbers: &[usize]) -> usize
+pub(crate) fn stride_of(column: Option<usize>, numbers: &[usize]) -> usize
     requires { Within column numbers.now }
     ensures { result ≡ length (but_at column numbers.now) }
 {
@@ -235,7 +239,7 @@ fn stride_of(column: Option<usize>, numbers: &[usize]) -> usize
 }
 
 /// The relation of the fact at a place.
-fn rel_at(a: &Instance, place: usize) -> u32
+fn rel_at(a: &Indexed, place: usize) -> u32
     requires { place < length a.now.facts }
     ensures { result ≡ rel_of a.now.facts place }
 {
@@ -247,8 +251,8 @@ fn rel_at(a: &Instance, place: usize) -> u32
 fn gather(
     places: &mut Vec<usize>,
     keys: &mut Vec<usize>,
-    a: &Instance,
-    b: &Instance,
+    a: &Indexed,
+    b: &Indexed,
     fits: &Fits,
     shape: Shape,
 ) -> Result<(), Memory>
@@ -285,7 +289,7 @@ fn key_of(column: Option<usize>, numbers: &[usize]) -> usize
 }
 
 /// The number of keys of a table: one for each number in `b`, and one for what is no value of `b`.
-fn keys_for(column: Option<usize>, b: &Instance) -> usize
+fn keys_for(column: Option<usize>, b: &Indexed) -> usize
     ensures { result ≡ key_count b.now.facts column }
 {
     match column {

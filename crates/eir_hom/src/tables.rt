@@ -7,7 +7,7 @@ ghost use Rattle.eir_hom.specs.Tables.{rows_in, table_at};
 ghost use Rattle.eir_hom.specs.Layouts.{laid};
 
 use crate::groups::Groups;
-use eir_inst::Instance;
+use eir_inst::Indexed;
 use eir_term::Memory;
 use std::alloc::Global;
 use std::marker::Model;
@@ -88,13 +88,7 @@ impl Tables {
 
     /// Adds a table behind these, for which there is room: its keys are the groups, and under each stand the rows of the
     /// facts at the group's places, which leave out the column.
-    pub(crate) fn add(
-        &mut self,
-        stride: usize,
-        column: Option<usize>,
-        b: &Instance,
-        groups: &Groups,
-    )
+    pub(crate) fn add(&mut self, stride: usize, column: Option<usize>, b: &Indexed, groups: &Groups)
         requires rows { HaveRows b.now.facts column stride groups.now.groups }
         requires cells_room { length self.old.cells + length (flat_map (flat_map (row_at b.now.facts column)) groups.now.groups)
             ≤ self.old.cells_room }
@@ -149,7 +143,7 @@ fn lay(
     cells: &mut Vec<usize>,
     ranges: &mut Vec<Range>,
     column: Option<usize>,
-    b: &Instance,
+    b: &Indexed,
     groups: &Groups,
 ) -> Result<(), Memory>
     requires { (ps : List ℕ) → ps ∈ groups.now.groups → (p : ℕ) → p ∈ ps → IsPlace b.now.facts column p }
@@ -177,7 +171,7 @@ fn lay(
 fn push_rows(
     cells: &mut Vec<usize>,
     column: Option<usize>,
-    b: &Instance,
+    b: &Indexed,
     places: &[usize],
 ) -> Result<(), Memory>
     requires { (p : ℕ) → p ∈ places.now → IsPlace b.now.facts column p }

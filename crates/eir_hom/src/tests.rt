@@ -59,7 +59,7 @@ fn start(alloc: Global, moves: Option<(u64, u64)>) -> Result<Map, Memory>
 }
 
 /// Goes on to the end, or until the fuel is used up: the pairs of all that is found, and how it ended.
-fn go_on<L: Ledger>(
+pub(crate) fn go_on<L: Ledger>(
     alloc: Global,
     homs: &mut Homs,
     fuel: &mut Fuel,

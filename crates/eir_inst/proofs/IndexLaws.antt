@@ -1,18 +1,18 @@
 -- What the index says of the facts that the owner sees. The points are `IsIndex-push`: the index after one fact more, and
 -- the laws of the look-ups by key and by value.
-use Rattle.std.proofs.Common.{◌≡◌, ◌↔◌, ℕ, zero, suc, ◌+◌, ◌-◌, ◌<◌, ◌≤◌, inl, inr, Bool, true, false, cond, Result, Ok, Err, OnOk, OnErr, IfOk, is_err, take, List, [], ◌∷◌, ◌++◌, map, filter, length, get_or, Option, Some, None, IsSome, is_some, position, option_map, slice_get, refl, sym, ◌∙◌, ap, ap₂, subst, arith, nat_lt}
+use Rattle.std.proofs.Common.{◌≡◌, ◌↔◌, ℕ, suc, ◌+◌, ◌-◌, ◌<◌, ◌≤◌, inl, inr, Bool, true, false, cond, Decides, Result, Ok, Err, OnOk, OnErr, IfOk, is_err, take, List, [], ◌∷◌, ◌++◌, map, filter, length, get_or, Option, Some, None, IsSome, is_some, position, option_map, slice_get, refl, sym, ◌∙◌, ap, ap₂, subst, arith, nat_lt}
 use Rattle.std.specs.List.{position_or_len, list_any}
 use Rattle.std.proofs.lemmas.Bool.{cases_Bool, false≢true}
 use Rattle.std.proofs.lemmas.Bool.Decides.{Decides-ltb}
-use Rattle.std.proofs.lemmas.Option.{same_Some, none-some, slice_get_past, slice_get_within, slice_get-map, get_or_from_slice_get}
+use Rattle.std.proofs.lemmas.Option.{same_Some, none-some, slice_get_within, slice_get-map, get_or_from_slice_get}
 use Rattle.std.proofs.lemmas.List.{take_all}
 use Rattle.std.proofs.Math.Seq.{take-append_seam, take-suc}
 use Rattle.indexmap.specs.IndexSet.{insert_key, insert_all}
 use Rattle.eir_term.specs.declared.val.Val.{Val}
 use Rattle.eir_term.specs.declared.fact.Fact.{Fact}
-use Rattle.eir_term.specs.Lists.{◌∈◌, IsDistinct, places, place_of}
-use Rattle.eir_term.specs.Values.{val_eq, val_eq-decides}
-use Rattle.eir_term.specs.Facts.{fact_eq}
+use Rattle.eir_term.specs.Lists.{◌∈◌, IsDistinct, place_of}
+use Rattle.eir_term.specs.Values.{val_eq}
+use Rattle.eir_term.specs.Facts.{fact_eq, fact_eq-decides}
 use Rattle.eir_term.specs.Instances.{values, is_ground, ground_part}
 use Rattle.eir_term.specs.Profiles.{Mark, profile}
 use Rattle.eir_term.proofs.ListLaws.{slice_get-place_of, ∈-list_any, ∈-list_any_from}
@@ -20,76 +20,54 @@ use Rattle.eir_term.proofs.OrderLaws.{place_of-slice_get}
 use Rattle.eir_inst.specs.declared.index.Index.{Index}
 use Rattle.eir_inst.specs.declared.key.Key.{Key}
 use Rattle.eir_inst.specs.BoundedFacts.{BoundedFacts}
-use Rattle.eir_inst.specs.Keys.{has_key}
 use Rattle.eir_inst.specs.Postings.{listed, in_fact}
 use Rattle.eir_inst.specs.Numbers.{numbers_of}
 use Rattle.eir_inst.specs.Grown.{grown, blank}
 use Rattle.eir_inst.specs.Indexes.{IsIndex}
-use Rattle.eir_inst.proofs.PlaceLaws.{length-places, filter-past, filter-at}
 use Rattle.eir_inst.proofs.KeyLaws.{places-with}
+use Rattle.eir_inst.proofs.WalkLaws.{filter-last}
 use Rattle.eir_inst.proofs.ValueLaws.{values-push, rows-push, position_or_len-place}
 use Rattle.eir_inst.proofs.GrownLaws.{profiles-push, profile-absent}
 
--- what stands at a place below the length
-pub slice_get-get_or : {X : Type 0} (xs : List X) (k : ℕ) (d : X) → k < length xs → slice_get xs k ≡ Some (get_or xs k d)
-slice_get-get_or [] k d l = absurd (omega arith)
-slice_get-get_or (x ∷ xs) zero d l = refl
-slice_get-get_or (x ∷ xs) (suc k) d l = slice_get-get_or xs k d (omega arith)
+-- look-ups in a set
+module _ {X : Type 0} (eq : X → X → Bool) (same : (a b : X) → Decides (eq a b) (a ≡ b)) where
+  -- where a place is below the length, the element is there
+  place-there : (v : X) (ws : List X) → place_of eq v ws < length ws → v ∈ ws
+  place-there v [] l = absurd (omega arith)
+  place-there v (w ∷ ws) l = elim (cases_Bool (eq v w)) [
+    | inl t ↦ inl ((same v w).0 t)
+    | inr t ↦ (let k : suc (place_of eq v ws) < suc (length ws) = rw t at l in inr (place-there v ws (omega arith)))
+  ]
 
--- as many places under a key as facts that have it
-pub count-under : (qs : List ℕ) (K facts : List Fact) (x : Index) (k : Key) → K ≡ facts → IsIndex K x → qs ≡ listed x.postings.lists k → length qs ≡ length (filter (has_key k) facts)
-count-under qs K facts x k seen i e = ap length (e ∙ i.postings k) ∙ length-places (has_key k) 0 K ∙ ap (λ fs. length (filter (has_key k) fs)) seen
+  -- a look-up answers exactly the place at which the element stands
+  pub position-iff : (r : Option ℕ) (v : X) (ws seen : List X) → ws ≡ seen → IsDistinct ws → r ≡ position (eq v) ws → (n : ℕ) → (r ≡ Some n) ↔ (slice_get seen n ≡ Some v)
+  position-iff r v ws seen s d e n = (λ h. ap (λ us. slice_get us n) (sym s) ∙ to h, λ h. e ∙ from (ap (λ us. slice_get us n) s ∙ h))
+    where
+      at : position_or_len (eq v) ws ≡ place_of eq v ws
+      at = position_or_len-place eq same v ws
 
--- the fact at the j-th place under a key is the j-th that has it
-pub nth-under : (qs : List ℕ) (K facts : List Fact) (x : Index) (k : Key) (j q : ℕ) → K ≡ facts → IsIndex K x → qs ≡ listed x.postings.lists k → j < length qs → q ≡ get_or qs j q → slice_get K q ≡ slice_get (filter (has_key k) facts) j
-nth-under qs K facts x k j q seen i e l at =
-    let there : slice_get (places (has_key k) 0 K) j ≡ Some q = ap (λ ps. slice_get ps j) (sym (i.postings k) ∙ sym e) ∙ slice_get-get_or qs j q l ∙ ap Some (sym at) in
-    let r = filter-at (has_key k) 0 K j q there in
-    let c : q ≡ r.0 = let d = r.1 in omega arith in
-    ap (slice_get K) c ∙ sym r.2 ∙ ap (λ fs. slice_get (filter (has_key k) fs) j) seen
+      to : r ≡ Some n → slice_get ws n ≡ Some v
+      to h = by (nat_lt (position_or_len (eq v) ws) (length ws)) refl (sym e ∙ h)
+        where
+          by : (b : Bool) → nat_lt (position_or_len (eq v) ws) (length ws) ≡ b → cond b (Some (position_or_len (eq v) ws)) None ≡ Some n → slice_get ws n ≡ Some v
+          by true t k =
+              let l : position_or_len (eq v) ws < length ws = (Decides-ltb (position_or_len (eq v) ws) (length ws)).0 t in
+              let p : place_of eq v ws ≡ n = sym (position_or_len-place eq same v ws) ∙ same_Some (position_or_len (eq v) ws) n k in
+              let m : place_of eq v ws < length ws = subst (λ j. j < length ws) (position_or_len-place eq same v ws) l in
+              ap (slice_get ws) (sym p) ∙ slice_get-place_of eq same v ws (place-there v ws m)
+          by false t k = absurd (none-some n k)
 
--- and past the places there is none
-pub none-under : (qs : List ℕ) (K facts : List Fact) (x : Index) (k : Key) (j : ℕ) → K ≡ facts → IsIndex K x → qs ≡ listed x.postings.lists k → length qs ≤ j → None ≡ slice_get (filter (has_key k) facts) j
-none-under qs K facts x k j seen i e l =
-    sym (filter-past (has_key k) 0 facts j (ap (λ fs. slice_get (places (has_key k) 0 fs) j) (sym seen) ∙ ap (λ ps. slice_get ps j) (sym (i.postings k) ∙ sym e) ∙ slice_get_past qs j l))
+      from : slice_get ws n ≡ Some v → position (eq v) ws ≡ Some n
+      from h =
+          let p : position_or_len (eq v) ws ≡ n = position_or_len-place eq same v ws ∙ place_of-slice_get eq same v ws n d h in
+          let l = slice_get_within ws n v h in
+          let m : position_or_len (eq v) ws < length ws = omega arith in
+          rw ((Decides-ltb (position_or_len (eq v) ws) (length ws)).1 m) (ap Some p)
 
--- where a place is below the length, the element is there
-place-there : (v : Val) (ws : List Val) → place_of val_eq v ws < length ws → v ∈ ws
-place-there v [] l = absurd (omega arith)
-place-there v (w ∷ ws) l = elim (cases_Bool (val_eq v w)) [
-  | inl t ↦ inl ((val_eq-decides v w).0 t)
-  | inr t ↦ (let k : suc (place_of val_eq v ws) < suc (length ws) = rw t at l in inr (place-there v ws (omega arith)))
-]
-
--- a look-up answers exactly the place at which the value stands
-pub number-iff : (r : Option ℕ) (v : Val) (ws facts : List Val) → ws ≡ facts → IsDistinct ws → r ≡ position (val_eq v) ws → (n : ℕ) → (r ≡ Some n) ↔ (slice_get facts n ≡ Some v)
-number-iff r v ws facts seen d e n = (λ h. ap (λ us. slice_get us n) (sym seen) ∙ to h, λ h. e ∙ from (ap (λ us. slice_get us n) seen ∙ h))
-  where
-    at : position_or_len (val_eq v) ws ≡ place_of val_eq v ws
-    at = position_or_len-place val_eq val_eq-decides v ws
-
-    to : r ≡ Some n → slice_get ws n ≡ Some v
-    to h = by (nat_lt (position_or_len (val_eq v) ws) (length ws)) refl (sym e ∙ h)
-      where
-        by : (b : Bool) → nat_lt (position_or_len (val_eq v) ws) (length ws) ≡ b → cond b (Some (position_or_len (val_eq v) ws)) None ≡ Some n → slice_get ws n ≡ Some v
-        by true t k =
-            let l : position_or_len (val_eq v) ws < length ws = (Decides-ltb (position_or_len (val_eq v) ws) (length ws)).0 t in
-            let p : place_of val_eq v ws ≡ n = sym (position_or_len-place val_eq val_eq-decides v ws) ∙ same_Some (position_or_len (val_eq v) ws) n k in
-            let m : place_of val_eq v ws < length ws = subst (λ j. j < length ws) (position_or_len-place val_eq val_eq-decides v ws) l in
-            ap (slice_get ws) (sym p) ∙ slice_get-place_of val_eq val_eq-decides v ws (place-there v ws m)
-        by false t k = absurd (none-some n k)
-
-    from : slice_get ws n ≡ Some v → position (val_eq v) ws ≡ Some n
-    from h =
-        let p : position_or_len (val_eq v) ws ≡ n = position_or_len-place val_eq val_eq-decides v ws ∙ place_of-slice_get val_eq val_eq-decides v ws n d h in
-        let l = slice_get_within ws n v h in
-        let m : position_or_len (val_eq v) ws < length ws = omega arith in
-        rw ((Decides-ltb (position_or_len (val_eq v) ws) (length ws)).1 m) (ap Some p)
-
--- and answers at all exactly where it occurs
-pub number-some : (r : Option ℕ) (v : Val) (ws facts : List Val) → ws ≡ facts → is_some r ≡ list_any (val_eq v) ws → IsSome r ↔ (v ∈ facts)
-number-some None v ws facts seen e = (λ h. absurd (false≢true h), λ h. absurd (false≢true (e ∙ ∈-list_any val_eq val_eq-decides v ws (subst (λ us. v ∈ us) (sym seen) h))))
-number-some (Some n) v ws facts seen e = (λ h. subst (λ us. v ∈ us) seen (∈-list_any_from val_eq val_eq-decides v ws (sym e)), λ h. refl)
+  -- and answers at all exactly where it occurs
+  pub position-some : (r : Option ℕ) (v : X) (ws seen : List X) → ws ≡ seen → is_some r ≡ list_any (eq v) ws → IsSome r ↔ (v ∈ seen)
+  position-some None v ws seen s e = (λ h. absurd (false≢true h), λ h. absurd (false≢true (e ∙ ∈-list_any eq same v ws (subst (λ us. v ∈ us) (sym s) h))))
+  position-some (Some n) v ws seen s e = (λ h. subst (λ us. v ∈ us) s (∈-list_any_from eq same v ws (sym e)), λ h. refl)
 
 -- the values that the owner sees
 pub values-seen : (K facts : List Fact) (x : Index) → K ≡ facts → IsIndex K x → x.numbering.values.keys ≡ values facts
@@ -127,6 +105,11 @@ pub on-err : {T E P : Type 0} (r : Result T E) → P → OnErr r P
 on-err (Ok x) p = tt
 on-err (Err e) p = p
 
+-- or does not
+pub on-ok : {T E P : Type 0} (r : Result T E) → P → OnOk r P
+on-ok (Ok x) p = p
+on-ok (Err e) p = tt
+
 -- what holds where a call fails, and where it does not
 pub from-err : {T E P : Type 0} (r : Result T E) (b : Bool) → b ≡ is_err r → b ≡ true → OnErr r P → P
 from-err (Ok x) b e t p = absurd (false≢true (sym e ∙ t))
@@ -137,8 +120,11 @@ from-ok (Ok x) b e t p = p
 from-ok (Err x) b e t p = absurd (false≢true (sym t ∙ e))
 
 -- a fact that is not there goes last
-pub appended : (K new : List Fact) (f : Fact) → list_any (fact_eq f) K ≡ false → new ≡ insert_key fact_eq K f → new ≡ K ++ f ∷ []
-appended K new f t e = e ∙ rw t refl
+pub appended : (K new : List Fact) (f : Fact) → (f ∈ K → ⊥) → new ≡ insert_key fact_eq K f → new ≡ K ++ f ∷ []
+appended K new f a e = elim (cases_Bool (list_any (fact_eq f) K)) [
+  | inl t ↦ absurd (a (∈-list_any_from fact_eq fact_eq-decides f K t))
+  | inr t ↦ e ∙ rw t refl
+]
 
 -- and the first of them are those that were there
 pub cut-back : (K new cut : List Fact) (f : Fact) (place : ℕ) → new ≡ K ++ f ∷ [] → place ≡ length K → cut ≡ take place new → cut ≡ K
@@ -150,27 +136,15 @@ profile-at facts vals ps v n d e at =
     let there : slice_get ps n ≡ Some (profile facts v) = ap (λ qs. slice_get qs n) e ∙ slice_get-map (profile facts) vals n ∙ ap (option_map (profile facts)) at in
     (slice_get_within ps n (profile facts v) there, get_or_from_slice_get ps n (profile facts v) d there)
 
--- the loops that copy facts, at their ends
-pub copied : (copy now : BoundedFacts) (facts : List Fact) (i : ℕ) → copy.facts ≡ take i facts → copy.limit ≡ now.limit → length facts ≤ i → facts ≡ now.facts → copy ≡ now
-copied copy now facts i e l n s = ap₂ (λ fs k. let b : BoundedFacts = record { facts = fs; limit = k } in b) (e ∙ take_all i facts n ∙ s) l
-
+-- the loop that copies the facts without nulls, at its end
 pub copied-ground : (part : BoundedFacts) (facts seen : List Fact) (limit i : ℕ) → part.facts ≡ filter is_ground (take i facts) → part.limit ≡ limit → length facts ≤ i → facts ≡ seen → part ≡ (let b : BoundedFacts = record { facts = ground_part seen; limit = limit } in b)
 copied-ground part facts seen limit i e l n s = ap₂ (λ fs k. let b : BoundedFacts = record { facts = fs; limit = k } in b) (e ∙ ap (filter is_ground) (take_all i facts n ∙ s)) l
 
--- and their turns
-pub copied-next : (copy new facts : List Fact) (i : ℕ) (x : Fact) → i < length facts → x ≡ get_or facts i x → copy ≡ take i facts → new ≡ copy ++ x ∷ [] → new ≡ take (i + 1) facts
-copied-next copy new facts i x l at e g =
-    let c : suc i ≡ i + 1 = omega arith in
-    g ∙ ap₂ (λ fs y. fs ++ y ∷ []) e at ∙ sym (take-suc facts i x l) ∙ ap (λ k. take k facts) c
-
-filter-push : (p : Fact → Bool) (xs : List Fact) (x : Fact) → filter p (xs ++ x ∷ []) ≡ filter p xs ++ cond (p x) (x ∷ []) []
-filter-push p [] x = refl
-filter-push p (y ∷ xs) x = elim (cases_Bool (p y)) [ inl t ↦ rw t (ap (λ zs. y ∷ zs) (filter-push p xs x)) | inr t ↦ rw t (filter-push p xs x) ]
-
+-- and its turns
 pub ground-next : (part new facts : List Fact) (i : ℕ) (x : Fact) (b : Bool) → i < length facts → x ≡ get_or facts i x → part ≡ filter is_ground (take i facts) → b ≡ is_ground x → new ≡ part ++ cond b (x ∷ []) [] → new ≡ filter is_ground (take (i + 1) facts)
 ground-next part new facts i x b l at e t g =
     let c : suc i ≡ i + 1 = omega arith in
-    g ∙ ap₂ (λ fs q. fs ++ cond q (x ∷ []) []) e t ∙ sym (filter-push is_ground (take i facts) x) ∙ ap (λ y. filter is_ground (take i facts ++ y ∷ [])) at ∙ ap (filter is_ground) (sym (take-suc facts i x l) ∙ ap (λ k. take k facts) c)
+    g ∙ ap₂ (λ fs q. fs ++ cond q (x ∷ []) []) e t ∙ sym (filter-last is_ground (take i facts) x) ∙ ap (λ y. filter is_ground (take i facts ++ y ∷ [])) at ∙ ap (filter is_ground) (sym (take-suc facts i x l) ∙ ap (λ k. take k facts) c)
 
 -- an answer that is equal to x is equal to what x is equal to
 pub if-ok : {T E : Type 0} (r : Result T E) (x y : T) → x ≡ y → IfOk r (λ p. p ≡ x) → IfOk r (λ p. p ≡ y)

@@ -26,9 +26,6 @@ eqb-flip a b = elim (cases_Bool (b == a)) [
 eqb-apart : (a b : ℕ) → (a ≡ b → ⊥) → (a == b) ≡ false
 eqb-apart a b ne = elim (cases_Bool (a == b)) [ inl t ↦ absurd (ne ((Decides-eqb a b).0 t)) | inr t ↦ t ]
 
-eqb-same : (a : ℕ) → (a == a) ≡ true
-eqb-same a = (Decides-eqb a a).1 refl
-
 and-false : (b : Bool) → (b && false) ≡ false
 and-false true = refl
 and-false false = refl

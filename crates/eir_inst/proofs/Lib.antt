@@ -5,11 +5,8 @@ pub mod ValueLaws
 pub mod MarkLaws
 pub mod GrownLaws
 pub mod AddLaws
+pub mod WithoutLaws
+pub mod StayingLaws
+pub mod WalkLaws
+pub mod LayerLaws
 pub mod IndexLaws
-pub mod ClosedLaws
-pub mod FrontLaws
-pub mod CopyLaws
-pub mod RemoveLaws
-pub mod KnownLaws
-pub mod KeptLaws
-pub mod InsertLaws

@@ -144,9 +144,6 @@ pub record IsNumbered (old vs keys : List Val) (row : List ℕ) : Type 0 where
   pub keys_are : keys ≡ insert_all val_eq old vs
   pub row_is : row ≡ numbers_of keys vs
 
-pub IsNumbered-none : (old : List Val) → IsNumbered old [] old []
-IsNumbered-none old = record { keys_are = refl; row_is = refl }
-
 -- one value more
 pub IsNumbered-push : (old vs keys new : List Val) (row grown : List ℕ) (v : Val) (n : ℕ) → IsNumbered old vs keys row → new ≡ insert_key val_eq keys v → n ≡ position_or_len (val_eq v) keys → grown ≡ row ++ n ∷ [] → IsNumbered old (vs ++ v ∷ []) new grown
 IsNumbered-push old vs keys new row grown v n s e at g = record {

@@ -1,16 +1,11 @@
 -- The places of the facts under each key of the index (this project's own).
 --   listed lists k            == the places under the key k
---   is_listed lists v m       == whether a place is listed under the mark m and the value v
---   kept lists vs g v         == the marks g v of the value v, of one of vs those under which a place is listed
 --   in_columns p r i vs k     == the place p, if k is a key of the columns from i on with these values
 --   in_fact p f k             == the place p, if k is a key of the fact f
-use Rattle.std.specs.Prelude.{ℕ, ◌+◌, ◌==◌, Bool, not, length, cond, List, [], ◌∷◌, ◌++◌, filter, unwrap_or}
-use Rattle.std.specs.List.{list_any}
+use Rattle.std.specs.Prelude.{ℕ, ◌+◌, cond, List, [], ◌∷◌, ◌++◌, unwrap_or}
 use Rattle.indexmap.specs.IndexMap.{IndexMap, get}
 use Rattle.eir_term.specs.declared.val.Val.{Val}
 use Rattle.eir_term.specs.declared.fact.Fact.{Fact}
-use Rattle.eir_term.specs.Values.{val_eq}
-use Rattle.eir_term.specs.Profiles.{Mark}
 use Rattle.eir_inst.specs.declared.key.Key.{Key}
 use Rattle.eir_inst.specs.declared.key.Key.TheVariants.{Relation, Column}
 use Rattle.eir_inst.specs.Keys.{key_eq}
@@ -18,14 +13,6 @@ use Rattle.eir_inst.specs.Keys.{key_eq}
 -- the places under the key
 abbrev pub listed : {S : Type 0} → IndexMap Key (List ℕ) S → Key → List ℕ
 listed lists k = unwrap_or (get key_eq lists k) []
-
--- whether a place is listed under the relation and the column of the mark, with the value
-abbrev pub is_listed : {S : Type 0} → IndexMap Key (List ℕ) S → Val → Mark → Bool
-is_listed lists v m = not (length (listed lists (Column m.0 m.1 v)) == 0)
-
--- the marks of each value as g says them, and of one of vs only those under which a place is listed
-abbrev pub kept : {S : Type 0} → IndexMap Key (List ℕ) S → List Val → (Val → List Mark) → Val → List Mark
-kept lists vs g v = cond (list_any (val_eq v) vs) (filter (is_listed lists v) (g v)) (g v)
 
 -- the place, if k is a key of the columns from i on with these values
 abbrev pub in_columns : ℕ → ℕ → ℕ → List Val → Key → List ℕ

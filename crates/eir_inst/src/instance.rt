@@ -1,46 +1,62 @@
 //! Instances.
-ghost use Rattle.std.specs.Prelude.{List, ◌≡◌, ◌++◌, ◌∷◌, ◌≤◌, ◌<◌, ◌↔◌, [], ℕ, Some, false, ◌==◌, IsTrue, IsSome, IsErrOf, IsOk, position, IfOk, OnOk, OnErr, filter, length, map, slice_get, slice_index_or, option_copied, option_map};
-ghost use Rattle.std.specs.List.{list_any};
+ghost use Rattle.std.specs.Prelude.{List, ◌≡◌, ◌++◌, ◌∷◌, ◌≤◌, ◌↔◌, [], ℕ, false, ◌==◌, IsTrue, IsErrOf, IsOk, IfOk, IfSome, OnOk, OnErr, filter, length, option_copied, slice_get};
 ghost use Rattle.eir_term.specs.declared.fact.Fact.{Fact};
-ghost use Rattle.eir_term.specs.Lists.{◌∈◌, IsDistinct, places, without};
-ghost use Rattle.eir_term.specs.Values.{is_null};
+ghost use Rattle.eir_term.specs.Lists.{◌∈◌, IsDistinct, without};
 ghost use Rattle.eir_term.specs.Facts.{fact_eq};
 ghost use Rattle.eir_term.specs.Instances as instances;
 ghost use Rattle.eir_term.specs.Profiles as profiles;
 ghost use Rattle.eir_term.specs.Plans as plans;
 ghost use Rattle.eir_inst.specs.Keys.{has_key};
-ghost use Rattle.eir_inst.specs.Numbers.{numbers_of};
-ghost use Rattle.eir_inst.specs.Indexes.{IsIndex};
+ghost use Rattle.eir_inst.specs.Layers.{base_facts, layered, staying};
 
-use crate::index::Index;
+use crate::added::{copies, count_under, is_ground, nth_under, place_among};
+use crate::indexed::Indexed;
 use crate::key::Key;
 use crate::profile::Profile;
+use crate::staying::{
+    count_staying, gone_count, nth_fact, nth_staying, place_staying, push_staying, unmarked,
+};
 use eir_term::{Fact, Memory, Val};
-use indexmap::IndexSet;
 use std::alloc::Global;
 use std::marker::Model;
+use std::rc::Rc;
 
-/// A finite set of facts, in order of insertion (Fagin, Kolaitis, Miller, Popa 2005), with the most that it may have,
-/// and with an index of them.
+/// How many facts an instance may differ by from the base that it shares, before a copy of it gets a base of its own.
+const FEW: usize = 64;
+
+/// A finite set of facts, in order of insertion (Fagin, Kolaitis, Miller, Popa 2005), with the most that it may have.
+///
+/// A copy shares what it can with the instance that it was copied from: a base of facts with their index, beside which
+/// stand marks of those that are gone, and the few facts that were added. So a copy with a change costs little, and
+/// [`Instance::indexed`] gives the facts with an index of all of them.
 #[derive(Drop)]
 pub struct Instance {
     alloc: Global,
-    facts: IndexSet<Fact>,
+    base: Base,
+    gone: Vec<bool>,
+    added: Vec<Fact>,
+    count: usize,
     limit: u64,
-    index: Index,
+}
+
+/// Facts with their index: of one instance alone, or shared with others.
+#[derive(Drop)]
+enum Base {
+    /// Facts that this instance alone has, so that more can be put behind them.
+    Own(Indexed),
+    /// Facts that other instances may have too.
+    Shared(Rc<Indexed>),
 }
 
 impl Model for Instance {
-    ghost use Rattle.std.specs.Prelude.{◌≤◌, length};
-    ghost use Rattle.eir_term.specs.Lists.{IsDistinct};
     ghost use Rattle.eir_inst.specs.BoundedFacts.{BoundedFacts};
-    ghost use Rattle.eir_inst.specs.Indexes.{IsIndex};
+    ghost use Rattle.eir_inst.specs.Layers.{layered, IsLayered};
 
     ghost Value = { BoundedFacts };
 
-    ghost view = { λ i. record { facts = i.facts.keys; limit = i.limit } };
+    ghost view = { λ i. record { facts = layered i.base i.gone.items i.added.items; limit = i.limit } };
 
-    ghost invariant = { λ i. IsDistinct i.facts.keys × (length i.facts.keys ≤ i.limit) × IsIndex i.facts.keys i.index };
+    ghost invariant = { λ i. IsLayered i.base i.gone.items i.added.items i.count i.limit };
 }
 
 /// Why a fact was not put in, in the order in which it is tested.
@@ -58,21 +74,36 @@ pub enum InsertRefused {
 #[derive(Clone, Copy, Debug, PartialEq, Eq)]
 pub struct Missing;
 
+impl Base {
+    /// The facts with their index, lent.
+    fn indexed(&self) -> &Indexed
+        ensures { result.now.facts ≡ base_facts self.now }
+    {
+        match self {
+            Base::Own(facts) => facts,
+            Base::Shared(facts) => facts,
+        }
+    }
+}
+
 impl Instance {
-    /// The instance with no fact that may have up to `limit` of them.
+    /// The instance with no fact that may have up to `limit` of them. It takes no memory.
     pub fn new(alloc: Global, limit: u64) -> Instance
         ensures { result ≡ record { facts = []; limit = limit } }
     {
         Instance {
             alloc,
-            facts: IndexSet::new(alloc),
+            base: Base::Own(Indexed::new(alloc)),
+            gone: Vec::new(alloc),
+            added: Vec::new(alloc),
+            count: 0,
             limit,
-            index: Index::new(alloc),
         }
     }
 
-    /// Puts a fact in, behind the others. All memory is taken first. It costs the hashes of the fact, of its values and
-    /// of its keys.
+    /// Puts a fact in, behind the others. All memory is taken first. It costs the hash of the fact and a look at each
+    /// fact that was added beside the base; where the instance has a base of its own, also the hashes of the fact's values
+    /// and keys.
     pub fn insert(&mut self, fact: Fact) -> Result<(), InsertRefused>
         ensures ok { OnOk result (self.new ≡ record { facts = self.old.facts ++ fact ∷ []; limit = self.old.limit }) }
         ensures err { OnErr result (self.new ≡ self.old) }
@@ -81,199 +112,296 @@ impl Instance {
             ↔ ((fact ∈ self.old.facts → ⊥) × (length self.old.facts ≡ self.old.limit)) }
         ensures its_limit { (n : ℕ) → IsErrOf result (InsertRefused.Full n) → n ≡ self.old.limit }
     {
-        if self.facts.contains(&fact) {
+        if self.contains(&fact) {
             return Err(InsertRefused::There);
         }
-        if self.facts.len() as u64 >= self.limit {
+        if self.count as u64 >= self.limit {
             return Err(InsertRefused::Full(self.limit));
         }
-        match append(&mut self.facts, &mut self.index, fact) {
-            Ok(()) => Ok(()),
+        match append(&mut self.base, &mut self.gone, &mut self.added, fact) {
+            Ok(()) => {
+                self.count += 1;
+                Ok(())
+            }
             Err(Memory) => Err(InsertRefused::Memory),
         }
     }
 
-    /// Takes a fact out; the others stay in order. It takes no memory, and costs the size of the instance.
+    /// Takes a fact out; the others stay in order. It takes no memory, and costs the hash of the fact and a look at each
+    /// fact that was added beside the base.
     pub fn remove(&mut self, fact: &Fact) -> Result<(), Missing>
         ensures ok { OnOk result (self.new ≡ record { facts = without fact_eq fact.now self.old.facts; limit = self.old.limit }) }
         ensures err { OnErr result (self.new ≡ self.old) }
         ensures there { IsOk result ↔ (fact.now ∈ self.old.facts) }
     {
-        match self.facts.get_index_of(fact) {
-            Some(place) => {
-                take_out(&mut self.facts, &mut self.index, fact, place);
-                Ok(())
-            }
-            None => Err(Missing),
+        if take_out(self.base.indexed(), &mut self.gone, &mut self.added, fact) {
+            self.count -= 1;
+            Ok(())
+        } else {
+            Err(Missing)
         }
     }
 
-    /// Whether the fact is in the instance.
+    /// Whether the fact is in the instance. It costs the hash of the fact and a look at each fact that was added beside
+    /// the base.
     pub fn contains(&self, fact: &Fact) -> bool
         ensures { IsTrue result ↔ (fact.now ∈ self.now.facts) }
     {
-        self.facts.contains(fact)
+        place_staying(self.base.indexed(), &self.gone, fact).is_some()
+            || place_among(&self.added, fact).is_some()
     }
 
     /// The number of facts.
     pub fn len(&self) -> usize
         ensures { result ≡ length self.now.facts }
     {
-        self.facts.len()
+        self.count
     }
 
-    /// The fact at a place, counted from 0.
+    /// The fact at a place, counted from 0. Where a fact of the base is gone, it costs the size of the base.
     pub fn fact(&self, place: usize) -> Option<&Fact>
         ensures { option_copied result ≡ slice_get self.now.facts place }
     {
-        self.facts.get_index(place)
+        let facts = self.base.indexed().as_slice();
+        let staying = self.count - self.added.len();
+        if place >= staying {
+            self.added.get(place - staying)
+        } else if staying == facts.len() {
+            facts.get(place)
+        } else {
+            nth_fact(facts, &self.gone, place)
+        }
     }
 
-    /// The facts, lent, for callers that go over all of them.
-    pub fn as_slice(&self) -> &[Fact]
-        ensures facts { result.now ≡ self.now.facts }
-        ensures distinct { IsDistinct self.now.facts }
-        ensures within { length self.now.facts ≤ self.now.limit }
-    {
-        self.facts.as_slice()
-    }
-
-    /// The number of facts of the relation.
+    /// The number of facts of the relation. It costs a look at each fact of the relation in the base, and at each that
+    /// was added beside it.
     pub fn count_of(&self, rel: u32) -> usize
         ensures { result ≡ plans.count_of rel self.now.facts }
     {
-        self.places_of(rel).len()
+        self.count(Key::Relation(rel))
     }
 
-    /// The fact of the relation that is the k-th of them, counted from 0, in the order of the facts.
+    /// The fact of the relation that is the k-th of them, counted from 0, in the order of the facts. It costs as much as
+    /// [`Instance::count_of`].
     pub fn nth_of(&self, rel: u32, k: usize) -> Option<&Fact>
         ensures { option_copied result ≡ slice_get (filter (λ f. f.rel == rel) self.now.facts) k }
     {
         self.nth(Key::Relation(rel), k)
     }
 
-    /// The places of the facts of the relation, ascending.
-    pub fn places_of(&self, rel: u32) -> &[usize]
-        ensures { result.now ≡ places (λ f. f.rel == rel) 0 self.now.facts }
-    {
-        self.index.postings.list(Key::Relation(rel))
-    }
-
-    /// The number of facts of the relation with the value at the column, which is counted from 0.
+    /// The number of facts of the relation with the value at the column, which is counted from 0. It costs a look at each
+    /// of them in the base, and at each fact that was added beside it.
     pub fn with_count(&self, rel: u32, place: u32, val: Val) -> usize
         ensures { result ≡ length (filter (profiles.has_at rel place val) self.now.facts) }
     {
-        self.index.postings.list(Key::Column(rel, place, val)).len()
+        self.count(Key::Column(rel, place, val))
     }
 
     /// The fact of the relation with the value at the column that is the k-th of them, counted from 0, in the order of
-    /// the facts.
+    /// the facts. It costs as much as [`Instance::with_count`].
     pub fn nth_with(&self, rel: u32, place: u32, val: Val, k: usize) -> Option<&Fact>
         ensures { option_copied result ≡ slice_get (filter (profiles.has_at rel place val) self.now.facts) k }
     {
         self.nth(Key::Column(rel, place, val), k)
     }
 
-    /// The fact that is the k-th under the key.
+    /// The number of facts that have the key.
+    fn count(&self, key: Key) -> usize
+        ensures { result ≡ length (filter (has_key key) self.now.facts) }
+    {
+        let places = self.base.indexed().list(key);
+        count_staying(places, &self.gone) + count_under(&self.added, key)
+    }
+
+    /// The fact that is the k-th of those that have the key.
     fn nth(&self, key: Key, k: usize) -> Option<&Fact>
         ensures { option_copied result ≡ slice_get (filter (has_key key) self.now.facts) k }
     {
-        match self.index.postings.list(key).get(k) {
-            Some(place) => self.facts.get_index(*place),
-            None => None,
+        let base = self.base.indexed();
+        let places = base.list(key);
+        match nth_staying(places, &self.gone, k) {
+            Some(place) => base.as_slice().get(place),
+            None => nth_under(&self.added, key, k - count_staying(places, &self.gone)),
         }
     }
 
-    /// The values by first occurrence, fact by fact and column by column. A value's number is its place here.
-    pub fn values(&self) -> &[Val]
-        ensures values { result.now ≡ instances.values self.now.facts }
-        ensures distinct { IsDistinct result.now }
-    {
-        self.index.numbering.values.as_slice()
-    }
-
-    /// The number of a value, or none where it does not occur.
-    pub fn number_of(&self, val: Val) -> Option<usize>
-        ensures there { (n : ℕ) → (result ≡ Some n) ↔ (slice_get (instances.values self.now.facts) n ≡ Some val) }
-        ensures absent { IsSome result ↔ (val ∈ instances.values self.now.facts) }
-    {
-        self.index.numbering.values.get_index_of(&val)
-    }
-
-    /// The numbers of the values of the fact at a place, column by column.
-    pub fn numbers_at(&self, place: usize) -> &[usize]
-        requires { place < length self.now.facts }
-        ensures { Some result.now ≡ option_map (λ f. numbers_of (instances.values self.now.facts) f.args) (slice_get self.now.facts place) }
-    {
-        self.index.numbering.rows[place].as_slice()
-    }
-
-    /// The profile of each value, by its number.
-    pub fn profiles(&self) -> &[Profile]
-        ensures { result.now ≡ map (profiles.profile self.now.facts) (instances.values self.now.facts) }
-    {
-        self.index.numbering.profiles.as_slice()
-    }
-
-    /// The profile of a value, which is empty where the value does not occur.
+    /// The profile of a value, which is empty where the value does not occur. It costs what [`Instance::indexed`] does.
     pub fn column_profile(&self, val: Val) -> Result<Profile, Memory>
         ensures { IfOk result (λ p. p ≡ profiles.profile self.now.facts val) }
     {
-        match self.number_of(val) {
-            Some(number) => profile_at(self.profiles(), number),
-            None => Ok(Profile::new(self.alloc)),
-        }
+        self.indexed()?.column_profile(val)
     }
 
-    /// An equal instance. It costs one hash for each fact, each value and each key.
+    /// An equal instance. It costs a reference, a mark for each fact of the base, and a copy of the facts that were added
+    /// beside it. Where the base is the instance's own, or the instance differs from it by more than 64 facts, it costs
+    /// what [`Instance::settled`] does.
     pub fn copy(&self) -> Result<Instance, Memory>
         ensures { IfOk result (λ i. i ≡ self.now) }
     {
-        let facts = copy_facts(self.alloc, &self.facts)?;
-        let index = self.index.copy()?;
+        match &self.base {
+            Base::Shared(base) if gone_count(&self.gone) + self.added.len() <= FEW => {
+                Ok(Instance {
+                    alloc: self.alloc,
+                    base: Base::Shared(base.clone()?),
+                    gone: self.gone.clone()?,
+                    added: copies(self.alloc, &self.added)?,
+                    count: self.count,
+                    limit: self.limit,
+                })
+            }
+            _ => self.settled(),
+        }
+    }
+
+    /// An equal instance, over a base that has all facts. It costs what [`Instance::indexed`] does, and a mark for each
+    /// fact.
+    pub fn settled(&self) -> Result<Instance, Memory>
+        ensures { IfOk result (λ i. i ≡ self.now) }
+    {
+        let base = self.indexed()?;
+        let gone = unmarked(self.alloc, base.len())?;
         Ok(Instance {
             alloc: self.alloc,
-            facts,
+            base: Base::Shared(base),
+            gone,
+            added: Vec::new(self.alloc),
+            count: self.count,
             limit: self.limit,
-            index,
         })
     }
 
-    /// The instance of the facts without nulls, in order, with the same limit.
+    /// An equal instance that is settled: this one, at the cost of a reference, where its base is shared and has just its
+    /// facts; else a new one, at the cost of [`Instance::settled`].
+    pub fn share_settled(instance: &Rc<Instance>) -> Result<Rc<Instance>, Memory>
+        ensures { IfOk result (λ i. i.value ≡ instance.now.value) }
+    {
+        if instance.settled_base().is_some() {
+            return Ok(instance.clone()?);
+        }
+        let settled = instance.settled()?;
+        Ok(Rc::new(settled.alloc, settled)?)
+    }
+
+    /// The facts with their index. Where the base is shared and has just these facts it costs a reference; else a copy
+    /// of each fact, and one hash for each fact, each value and each key.
+    pub fn indexed(&self) -> Result<Rc<Indexed>, Memory>
+        ensures { IfOk result (λ x. x.value.facts ≡ self.now.facts) }
+    {
+        match self.settled_base() {
+            Some(base) => Ok(base.clone()?),
+            None => gathered(self.alloc, self.base.indexed(), &self.gone, &self.added),
+        }
+    }
+
+    /// The base, where it is shared and has just the facts of the instance.
+    fn settled_base(&self) -> Option<&Rc<Indexed>>
+        ensures { IfSome result (λ x. x.now.value.facts ≡ self.now.facts) }
+    {
+        match &self.base {
+            Base::Shared(base) if self.added.is_empty() && base.len() == self.count => Some(base),
+            _ => None,
+        }
+    }
+
+    /// The instance of the facts without nulls, in order, with the same limit. It costs what [`Instance::indexed`] does,
+    /// and a copy of each of these facts, with one hash for each, each of their values and each of their keys.
     pub fn ground_part(&self) -> Result<Instance, Memory>
         ensures { IfOk result (λ i. i ≡ record { facts = instances.ground_part self.now.facts; limit = self.now.limit }) }
     {
-        let alloc = self.alloc;
-        let facts = self.as_slice();
-        let mut part = Instance::new(alloc, self.limit);
-        for fact in facts {
-            if is_ground(fact) {
-                copy_into(alloc, &mut part, fact)?;
-            }
+        let facts = self.indexed()?;
+        ground_facts(self.alloc, facts.as_slice(), self.limit)
+    }
+}
+
+/// Puts a fact behind the others: into the base where it is not shared, lacks the fact, and has none added beside it.
+fn append(
+    base: &mut Base,
+    gone: &mut Vec<bool>,
+    added: &mut Vec<Fact>,
+    fact: Fact,
+) -> Result<(), Memory>
+    requires { length gone.old.items ≡ length (base_facts base.old) }
+    ensures ok { OnOk result (layered base.new gone.new.items added.new.items ≡ layered base.old gone.old.items added.old.items ++ fact ∷ []) }
+    ensures err { OnErr result (layered base.new gone.new.items added.new.items ≡ layered base.old gone.old.items added.old.items) }
+    ensures marked { length gone.new.items ≡ length (base_facts base.new) }
+{
+    match base {
+        Base::Own(facts) if added.is_empty() && facts.place_of(&fact).is_none() => {
+            push_marked(facts, gone, fact)
         }
-        Ok(part)
+        _ => {
+            added.push(fact)?;
+            Ok(())
+        }
     }
 }
 
-/// The set of the same facts, in the same order.
-fn copy_facts(alloc: Global, facts: &IndexSet<Fact>) -> Result<IndexSet<Fact>, Memory>
-    requires { IsDistinct facts.now.keys }
-    ensures { IfOk result (λ copy. copy.keys ≡ facts.now.keys) }
+/// Puts a fact that is not there behind those of a base, with a mark by which it stays.
+fn push_marked(facts: &mut Indexed, gone: &mut Vec<bool>, fact: Fact) -> Result<(), Memory>
+    requires { fact ∈ facts.old.facts → ⊥ }
+    ensures facts { OnOk result (facts.new.facts ≡ facts.old.facts ++ fact ∷ []) }
+    ensures gone { OnOk result (gone.new.items ≡ gone.old.items ++ false ∷ []) }
+    ensures same_facts { OnErr result (facts.new.facts ≡ facts.old.facts) }
+    ensures same_gone { OnErr result (gone.new.items ≡ gone.old.items) }
 {
-    let mut copy = IndexSet::with_capacity(alloc, facts.len())?;
-    for fact in facts.as_slice() {
-        copy.insert(fact.copy(alloc)?)?;
+    gone.push(false)?;
+    let pushed = facts.push(fact);
+    if pushed.is_err() {
+        let _ = gone.pop();
     }
-    Ok(copy)
+    pushed
 }
 
-/// A copy of the profile at a number.
-fn profile_at(profiles: &[Profile], number: usize) -> Result<Profile, Memory>
-    requires { number < length profiles.now }
-    ensures { IfOk result (λ p. p ≡ slice_index_or profiles.now number []) }
+/// Takes a fact out: marks it as gone where it is of the base, else takes it from those that were added. The answer is
+/// whether it was there.
+fn take_out(base: &Indexed, gone: &mut Vec<bool>, added: &mut Vec<Fact>, fact: &Fact) -> bool
+    requires marked { length gone.old.items ≡ length base.now.facts }
+    requires distinct { IsDistinct (staying base.now.facts gone.old.items ++ added.old.items) }
+    ensures there { IsTrue result ↔ (fact.now ∈ (staying base.now.facts gone.old.items ++ added.old.items)) }
+    ensures facts { staying base.now.facts gone.new.items ++ added.new.items
+        ≡ without fact_eq fact.now (staying base.now.facts gone.old.items ++ added.old.items) }
+    ensures marked { length gone.new.items ≡ length gone.old.items }
 {
-    let profile = profiles[number].clone()?;
-    Ok(profile)
+    if let Some(place) = place_staying(base, gone, fact) {
+        gone[place] = true;
+        return true;
+    }
+    match place_among(added, fact) {
+        Some(place) => {
+            let _ = added.remove(place);
+            true
+        }
+        None => false,
+    }
+}
+
+/// The facts of a base that stay, and the added ones, with an index of them.
+fn gathered(
+    alloc: Global,
+    base: &Indexed,
+    gone: &[bool],
+    added: &[Fact],
+) -> Result<Rc<Indexed>, Memory>
+    requires { IsDistinct (staying base.now.facts gone.now ++ added.now) }
+    ensures { IfOk result (λ x. x.value.facts ≡ staying base.now.facts gone.now ++ added.now) }
+{
+    let mut facts = Indexed::new(alloc);
+    push_staying(alloc, &mut facts, base.as_slice(), gone)?;
+    push_staying(alloc, &mut facts, added, &[])?;
+    Ok(Rc::new(alloc, facts)?)
+}
+
+/// The instance of those of the facts that have no null.
+fn ground_facts(alloc: Global, facts: &[Fact], limit: u64) -> Result<Instance, Memory>
+    ensures { IfOk result (λ i. i ≡ record { facts = instances.ground_part facts.now; limit = limit }) }
+{
+    let mut part = Instance::new(alloc, limit);
+    for fact in facts {
+        if is_ground(fact) {
+            copy_into(alloc, &mut part, fact)?;
+        }
+    }
+    Ok(part)
 }
 
 /// Puts a copy of the fact behind those of an instance that lacks it and is not full.
@@ -285,59 +413,5 @@ fn copy_into(alloc: Global, to: &mut Instance, fact: &Fact) -> Result<(), Memory
     match to.insert(fact) {
         Ok(()) => Ok(()),
         Err(_) => Err(Memory),
-    }
-}
-
-/// Whether the fact has no null.
-fn is_ground(fact: &Fact) -> bool
-    ensures { result ≡ instances.is_ground fact.now }
-{
-    !has_null(fact.args.as_slice())
-}
-
-/// Whether a null is among these values.
-fn has_null(vals: &[Val]) -> bool
-    ensures { result ≡ list_any is_null vals.now }
-{
-    vals.iter().any(|val| val.is_null())
-}
-
-/// Puts a fact behind those of the set, and into the index.
-fn append(facts: &mut IndexSet<Fact>, index: &mut Index, fact: Fact) -> Result<(), Memory>
-    requires { list_any (fact_eq fact) facts.old.keys ≡ false }
-    ensures ok { OnOk result (facts.new.keys ≡ facts.old.keys ++ fact ∷ []) }
-    ensures err { OnErr result (facts.new.keys ≡ facts.old.keys) }
-    ensures index { IsIndex facts.old.keys index.old → IsIndex facts.new.keys index.new }
-{
-    let place = facts.len();
-    facts.insert(fact)?;
-    let pushed = index_at(index, facts, place);
-    if pushed.is_err() {
-        facts.truncate(place);
-    }
-    pushed
-}
-
-/// Takes the fact at a place out of the set, and out of the index.
-fn take_out(facts: &mut IndexSet<Fact>, index: &mut Index, fact: &Fact, place: usize)
-    requires index { IsIndex facts.old.keys index.old }
-    requires place { position (fact_eq fact.now) facts.old.keys ≡ Some place }
-    requires distinct { IsDistinct facts.old.keys }
-    ensures facts { facts.new.keys ≡ without fact_eq fact.now facts.old.keys }
-    ensures index { IsIndex facts.new.keys index.new }
-{
-    index.remove(facts.as_slice(), place);
-    let _ = facts.shift_remove(fact);
-}
-
-/// Makes the index of the facts before a place, which is the last, that of all of them.
-fn index_at(index: &mut Index, facts: &IndexSet<Fact>, place: usize) -> Result<(), Memory>
-    ensures ok { OnOk result ((K : List Fact) (f : Fact) → facts.now.keys ≡ K ++ f ∷ [] → length K ≡ place
-        → IsIndex K index.old → IsIndex facts.now.keys index.new) }
-    ensures err { OnErr result ((K : List Fact) → IsIndex K index.old → IsIndex K index.new) }
-{
-    match facts.get_index(place) {
-        Some(fact) => index.push(fact, place),
-        None => Err(Memory),
     }
 }

@@ -1,5 +1,9 @@
 //! What the facts of an instance are listed by.
-use eir_term::Val;
+ghost use Rattle.std.specs.Prelude.{◌≡◌, false, option_map, slice_get, unwrap_or};
+ghost use Rattle.eir_term.specs.Values.{val_eq};
+ghost use Rattle.eir_inst.specs.Keys.{has_key};
+
+use eir_term::{Fact, Val};
 use std::hash::{Hash, Hasher};
 
 /// A relation, or a value at a column of a relation.
@@ -9,6 +13,30 @@ pub enum Key {
     Relation(u32),
     /// The facts of this relation that have, at this column, counted from 0, this value.
     Column(u32, u32, Val),
+}
+
+impl Key {
+    /// Whether the fact is listed under the key.
+    pub(crate) fn is_of(self, fact: &Fact) -> bool
+        ensures { result ≡ has_key self fact.now }
+    {
+        match self {
+            Key::Relation(rel) => fact.rel == rel,
+            Key::Column(rel, column, val) => {
+                fact.rel == rel && is_at(fact.args.as_slice(), column, val)
+            }
+        }
+    }
+}
+
+/// Whether the value stands at the column.
+fn is_at(vals: &[Val], column: u32, val: Val) -> bool
+    ensures { result ≡ unwrap_or (option_map (val_eq val) (slice_get vals.now column)) false }
+{
+    match vals.get(column as usize) {
+        Some(other) => val == *other,
+        None => false,
+    }
 }
 
 impl PartialEq for Key {

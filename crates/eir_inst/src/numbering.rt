@@ -1,20 +1,11 @@
 //! The values of an instance by first occurrence, each fact's values by their numbers in this list, and the profiles of
 //! the values.
-ghost use Rattle.std.specs.Prelude.{◌≡◌, ◌++◌, ◌∷◌, ◌-◌, ◌<◌, ◌^◌, [], ℕ, IfOk, OnOk, OnErr, length, take, Some, slice_get, slice_set, slice_index_or, option_map, ◌+◌, ◌≤◌, List, map, filter, remove};
+ghost use Rattle.std.specs.Prelude.{◌≡◌, ◌++◌, ◌∷◌, ◌-◌, ◌<◌, ◌^◌, [], ℕ, IfOk, OnOk, OnErr, length, take, slice_get, option_map};
 ghost use Rattle.indexmap.specs.IndexSet.{insert_all};
-ghost use Rattle.eir_term.specs.declared.val.Val.{Val};
-ghost use Rattle.eir_term.specs.declared.fact.Fact.{Fact};
-ghost use Rattle.eir_term.specs.Lists.{◌∈◌, IsDistinct};
 ghost use Rattle.eir_term.specs.Values.{val_eq};
-ghost use Rattle.eir_term.specs.Instances as instances;
-ghost use Rattle.eir_term.specs.Profiles.{Mark};
-ghost use Rattle.eir_inst.specs.Postings.{is_listed, kept};
 ghost use Rattle.eir_inst.specs.Numbers.{numbers_of};
 ghost use Rattle.eir_inst.specs.Grown.{grown, blank};
 
-use crate::earlier::first_new;
-use crate::front::bring_facts;
-use crate::postings::Postings;
 use crate::profile::Profile;
 use crate::profiles::push_marks;
 use crate::row::Row;
@@ -46,23 +37,6 @@ impl Numbering {
         }
     }
 
-    /// The same values, rows and profiles.
-    pub(crate) fn copy(&self) -> Result<Numbering, Memory>
-        ensures values { IfOk result (λ n. n.values.keys ≡ self.now.values.keys) }
-        ensures rows { IfOk result (λ n. n.rows.items ≡ self.now.rows.items) }
-        ensures profiles { IfOk result (λ n. n.profiles.items ≡ self.now.profiles.items) }
-    {
-        let values = self.values.clone()?;
-        let rows = self.rows.clone()?;
-        let profiles = self.profiles.clone()?;
-        Ok(Numbering {
-            alloc: self.alloc,
-            values,
-            rows,
-            profiles,
-        })
-    }
-
     /// Numbers the values of one more fact, and adds its columns to their profiles.
     pub(crate) fn push(&mut self, fact: &Fact) -> Result<(), Memory>
         requires { length fact.now.args < 2 ^ 32 }
@@ -84,50 +58,6 @@ impl Numbering {
             self.rows.truncate(facts);
         }
         pushed
-    }
-
-    /// Takes out the fact at a place, which is gone from the lists under the keys. The values of the others are brought
-    /// into the order of their first occurrences, and numbered anew.
-    pub(crate) fn remove(&mut self, facts: &[Fact], place: usize, postings: &Postings)
-        requires place { place < length facts.now }
-        requires values { self.old.values.keys ≡ instances.values facts.now }
-        requires rows { self.old.rows.items ≡ map (λ f. numbers_of (instances.values facts.now) f.args) facts.now }
-        requires profiles { length self.old.profiles.items ≡ length (instances.values facts.now) }
-        ensures values { self.new.values.keys ≡ instances.values (remove facts.now place) }
-        ensures rows { self.new.rows.items
-            ≡ map (λ f. numbers_of (instances.values (remove facts.now place)) f.args) (remove facts.now place) }
-        ensures profiles { (f : Fact) → slice_get facts.now place ≡ Some f
-            → (g : Val → List Mark) → self.old.profiles.items ≡ map g (instances.values facts.now)
-            → self.new.profiles.items ≡ map (kept postings.now.lists f.args g) (instances.values (remove facts.now place)) }
-    {
-        let row = self.rows[place].as_slice();
-        keep_listed(
-            &mut self.profiles,
-            row,
-            facts[place].args.as_slice(),
-            postings,
-        );
-        self.put_in_order(facts, place);
-        take_row(&mut self.rows, place);
-    }
-
-    /// Brings the values into the order of their first occurrences without the fact at a place, and numbers them anew.
-    /// Where each value of this fact occurs before it, all stays as it is, and no value is hashed.
-    fn put_in_order(&mut self, facts: &[Fact], place: usize)
-        requires place { place < length facts.now }
-        requires values { self.old.values.keys ≡ instances.values facts.now }
-        requires rows { self.old.rows.items ≡ map (λ f. numbers_of (instances.values facts.now) f.args) facts.now }
-        requires profiles { length self.old.profiles.items ≡ length (instances.values facts.now) }
-        ensures values { self.new.values.keys ≡ instances.values (remove facts.now place) }
-        ensures rows { self.new.rows.items ≡ map (λ f. numbers_of (instances.values (remove facts.now place)) f.args) facts.now }
-        ensures profiles { (g : Val → List Mark) → self.old.profiles.items ≡ map g (instances.values facts.now)
-            → self.new.profiles.items ≡ map g (instances.values (remove facts.now place)) }
-    {
-        let first = first_new(&self.rows[..place], self.rows[place].as_slice());
-        if let Some(known) = first {
-            reorder(&mut self.values, &mut self.profiles, facts, place, known);
-            renumber(&mut self.rows, &self.values, facts, place);
-        }
     }
 
     /// The same, where values and a row may be left over after a want of memory.
@@ -154,92 +84,6 @@ impl Numbering {
             fact.rel,
             self.rows[place].as_slice(),
         )
-    }
-}
-
-/// Brings the values of these facts, without that at a place, into the order of their first occurrences, each with its
-/// profile, and lets those go that no longer occur. The facts before the place have the first `known` of them.
-fn reorder(
-    values: &mut IndexSet<Val>,
-    profiles: &mut Vec<Profile>,
-    facts: &[Fact],
-    place: usize,
-    known: usize,
-)
-    requires place { place < length facts.now }
-    requires values { values.old.keys ≡ instances.values facts.now }
-    requires profiles { length profiles.old.items ≡ length values.old.keys }
-    requires known { known ≡ length (instances.values (take place facts.now)) }
-    ensures values { values.new.keys ≡ instances.values (remove facts.now place) }
-    ensures profiles { (g : Val → List Mark) → profiles.old.items ≡ map g values.old.keys
-        → profiles.new.items ≡ map g (instances.values (remove facts.now place)) }
-{
-    let count = bring_all(values, profiles, facts, place, known);
-    values.truncate(count);
-    profiles.truncate(count);
-}
-
-/// Brings the values of these facts, without that at a place, to the front, where those of the facts before it stand.
-/// The answer is how many they are.
-fn bring_all(
-    values: &mut IndexSet<Val>,
-    profiles: &mut [Profile],
-    facts: &[Fact],
-    place: usize,
-    known: usize,
-) -> usize
-    requires place { place < length facts.now }
-    requires values { values.old.keys ≡ instances.values facts.now }
-    requires profiles { length profiles.old ≡ length values.old.keys }
-    requires known { known ≡ length (instances.values (take place facts.now)) }
-    ensures values { take result values.new.keys ≡ instances.values (remove facts.now place) }
-    ensures profiles { (g : Val → List Mark) → profiles.old ≡ map g values.old.keys
-        → take result profiles.new ≡ map g (instances.values (remove facts.now place)) }
-{
-    bring_facts(values, profiles, &facts[place + 1..], known)
-}
-
-/// Takes out the row at a place.
-fn take_row(rows: &mut Vec<Row>, place: usize)
-    requires { place < length rows.old.items }
-    ensures { rows.new.items ≡ remove rows.old.items place }
-{
-    let _ = rows.remove(place);
-}
-
-/// Keeps, in the profile of each of these values, whose numbers are given, the pairs under which some fact is listed.
-fn keep_listed(profiles: &mut [Profile], numbers: &[usize], vals: &[Val], postings: &Postings)
-    requires lengths { length numbers.now ≡ length vals.now }
-    requires numbered { (n : ℕ) → n ∈ numbers.now → n < length profiles.old }
-    ensures { (values : List Val) (g : Val → List Mark) → IsDistinct values → ((v : Val) → v ∈ vals.now → v ∈ values)
-        → numbers.now ≡ numbers_of values vals.now → profiles.old ≡ map g values
-        → profiles.new ≡ map (kept postings.now.lists vals.now g) values }
-{
-    for at in 0..vals.len() {
-        keep_listed_at(profiles, numbers[at], vals[at], postings);
-    }
-}
-
-/// Keeps, in the profile of the value of this number, the pairs under which some fact is listed.
-fn keep_listed_at(profiles: &mut [Profile], number: usize, val: Val, postings: &Postings)
-    requires { number < length profiles.old }
-    ensures { profiles.new ≡ slice_set profiles.old number
-        (filter (is_listed postings.now.lists val) (slice_index_or profiles.old number [])) }
-{
-    let profile = &mut profiles[number];
-    profile.keep_listed(postings, val);
-}
-
-/// Numbers the values of each fact from a place on anew, in its row. The rows before it are right.
-fn renumber(rows: &mut [Row], values: &IndexSet<Val>, facts: &[Fact], from: usize)
-    requires lengths { map length rows.old ≡ map (λ f. length f.args) facts.now }
-    requires from { from ≤ length facts.now }
-    requires front { take from rows.old ≡ map (λ f. numbers_of values.now.keys f.args) (take from facts.now) }
-    ensures { rows.new ≡ map (λ f. numbers_of values.now.keys f.args) facts.now }
-{
-    for at in from..facts.len() {
-        let row = &mut rows[at];
-        row.renumber(values, facts[at].args.as_slice());
     }
 }
 

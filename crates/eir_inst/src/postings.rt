@@ -1,8 +1,7 @@
 //! The places of the facts under each key.
-ghost use Rattle.std.specs.Prelude.{◌≡◌, ◌++◌, ◌∷◌, [], ℕ, ◌-◌, ◌+◌, ◌<◌, ◌^◌, List, IfOk, OnOk, OnErr, cond, length, take};
+ghost use Rattle.std.specs.Prelude.{◌≡◌, ◌++◌, ◌∷◌, [], ℕ, ◌-◌, ◌+◌, ◌<◌, ◌^◌, List, OnOk, OnErr, cond, length, take};
 ghost use Rattle.eir_inst.specs.declared.key.Key.{Key};
 ghost use Rattle.eir_inst.specs.Keys.{key_eq};
-ghost use Rattle.eir_inst.specs.Closed.{closed};
 ghost use Rattle.eir_inst.specs.Postings.{listed, in_columns, in_fact};
 
 use crate::key::Key;
@@ -27,17 +26,6 @@ impl Postings {
             alloc,
             lists: IndexMap::new(alloc),
         }
-    }
-
-    /// Equal lists of places, under the same keys.
-    pub(crate) fn copy(&self) -> Result<Postings, Memory>
-        ensures { IfOk result (λ p. (k : Key) → listed p.lists k ≡ listed self.now.lists k) }
-    {
-        let lists = self.lists.clone()?;
-        Ok(Postings {
-            alloc: self.alloc,
-            lists,
-        })
     }
 
     /// The places under a key.
@@ -133,16 +121,5 @@ impl Postings {
     {
         self.drop_columns(fact.rel, 0, fact.args.as_slice(), place);
         self.drop_last(Key::Relation(fact.rel));
-    }
-
-    /// Takes the fact at a place, which is gone, out of all lists, and lowers the places behind it by one.
-    pub(crate) fn remove(&mut self, place: usize)
-        ensures { (k : Key) → listed self.new.lists k ≡ closed place (listed self.old.lists k) }
-    {
-        for at in 0..self.lists.len() {
-            if let Some(places) = self.lists.get_index_mut(at) {
-                places.close_up(place);
-            }
-        }
     }
 }

@@ -44,7 +44,7 @@ refused_for (Some c) = refused_reply c
 abbrev pub told : RustReply → Reply
 told rust.Accepted = accepted
 told (rust.Refused c) = refused_for (cause_of c)
-told (rust.Found v) = found (finding_of v)
+told (rust.Found v) = found (finding_of v.value)
 
 -- the text of a refusal
 abbrev pub refusal_text : Option state.Cause → List ℕ

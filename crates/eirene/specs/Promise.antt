@@ -6,6 +6,7 @@
 --                               `fit` is answered as the headline says
 use Rattle.std.specs.Prelude.{◌≡◌, ◌↔◌, ℕ, ◌≤◌, List, ◌∷◌, ◌++◌, length, Option}
 use Rattle.std.specs.Io.KnownBytes.{Appends, Consumes, IsAtEnd}
+use Rattle.eir_term.specs.declared.val.Kind.TheVariants.{Glav}
 use Rattle.eir_term.specs.Dependencies.{Dependency}
 use Rattle.eir_term.specs.Headline.{Says as IsRight, SomeFits}
 use Rattle.eir_term.specs.Verdicts.{Finding, fits}
@@ -21,8 +22,8 @@ pub record FitIsRight (bytes : List ℕ) (before : List (List ℕ)) : Type 0 whe
   pub finding : Finding
   pub rest : List ℕ
   pub printed : output_of bytes ≡ replies empty_workspace before ++ (finding_text (workspace_after empty_workspace before) finding ++ rest)
-  pub right : IsRight (present (workspace_after empty_workspace before)) finding
-  pub exactly : SomeFits (present (workspace_after empty_workspace before)) ↔ ((M : List Dependency) × (finding ≡ fits M))
+  pub right : IsRight Glav (present (workspace_after empty_workspace before)) finding
+  pub exactly : SomeFits Glav (present (workspace_after empty_workspace before)) ↔ ((M : List Dependency) × (finding ≡ fits M))
 
 -- each line of the input that says `fit`, whatever lines stand before it, is answered so
 abbrev pub FitsAreRight : List ℕ → Type 0

@@ -26,8 +26,8 @@ pub fn glav_dependency(alloc: Global, example: &DataExample) -> Result<Dep, Memo
     ensures { IfOk result (λ d. d ≡ glav_dependency example.now) }
 {
     let (variables, exists) = variables(alloc, example)?;
-    let premise = atoms(alloc, &variables, example.source().as_slice())?;
-    let conclusion = atoms(alloc, &variables, example.target().as_slice())?;
+    let premise = atoms(alloc, &variables, example.source_facts().as_slice())?;
+    let conclusion = atoms(alloc, &variables, example.target_facts().as_slice())?;
     match Dep::new(premise, exists, conclusion) {
         Ok(dep) => Ok(dep),
         Err(_) => unreachable!(),
@@ -42,7 +42,7 @@ pub fn canonical_mapping(alloc: Global, examples: &[Rc<Example>]) -> Result<Mapp
 {
     let mut mapping = Mapping::new(alloc);
     for place in 0..examples.len() {
-        let example = DataExample::at(examples, place);
+        let example = DataExample::at(examples, place)?;
         push_dependency(alloc, &mut mapping, &example)?;
     }
     Ok(mapping)
@@ -58,7 +58,7 @@ fn push_dependency(
     ensures { OnOk result (mapping.new ≡ mapping.old
         ++ unless_empty example.now.target (glav_dependency example.now)) }
 {
-    match example.target().as_slice() {
+    match example.target_facts().as_slice() {
         [] => {}
         [_, ..] => mapping.push(glav_dependency(alloc, example)?)?,
     }
@@ -73,8 +73,8 @@ fn variables(alloc: Global, example: &DataExample) -> Result<(IndexSet<Val>, Vec
         ≡ numbers (length (consts example.now.source)) (nulls example.now.target)) }
     ensures few { IfOk result (λ r. length r.0.keys < 4294967295) }
 {
-    let constants = constants_of(alloc, example.source())?;
-    let nulls = nulls_of(alloc, example.target())?;
+    let constants = constants_of(alloc, example.source_facts())?;
+    let nulls = nulls_of(alloc, example.target_facts())?;
     if constants.len() + nulls.len() >= u32::MAX as usize {
         return Err(Memory);
     }

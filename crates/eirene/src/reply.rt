@@ -26,7 +26,7 @@ pub enum Reply {
     /// It was refused. It left everything but the names.
     Refused(Cause),
     /// It asked for a mapping.
-    Found(Verdict),
+    Found(Box<Verdict>),
 }
 
 /// Adds the text of a reply to what is pending.

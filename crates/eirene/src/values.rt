@@ -2,12 +2,12 @@
 ghost use Rattle.std.specs.Prelude.{◌≡◌, IfOk};
 ghost use Rattle.eir_term.specs.Instances.{consts, nulls};
 
-use eir_inst::Instance;
+use eir_inst::Indexed;
 use eir_term::{Memory, Val};
 use std::alloc::Global;
 
 /// The constants among the values of the facts; fixed constants are none.
-pub fn constants_of(alloc: Global, instance: &Instance) -> Result<Vec<Val>, Memory>
+pub fn constants_of(alloc: Global, instance: &Indexed) -> Result<Vec<Val>, Memory>
     ensures { IfOk result (λ v. v.items ≡ consts instance.now.facts) }
 {
     let mut found = Vec::new(alloc);
@@ -20,7 +20,7 @@ pub fn constants_of(alloc: Global, instance: &Instance) -> Result<Vec<Val>, Memo
 }
 
 /// The labelled nulls among the values of the facts.
-pub fn nulls_of(alloc: Global, instance: &Instance) -> Result<Vec<Val>, Memory>
+pub fn nulls_of(alloc: Global, instance: &Indexed) -> Result<Vec<Val>, Memory>
     ensures { IfOk result (λ v. v.items ≡ nulls instance.now.facts) }
 {
     let mut found = Vec::new(alloc);

@@ -47,7 +47,7 @@ pub fn verdict_on(alloc: Global, examples: &[Rc<Example>]) -> Result<Verdict, Me
     requires { AllSources (pairs_of examples.now) }
     ensures { IfOk result (λ v. finding_of v ≡ verdict Glav (pairs_of examples.now)) }
 {
-    if let Some(found) = domain_finding(examples) {
+    if let Some(found) = domain_finding(examples)? {
         return Ok(found);
     }
     if let Some(found) = refuted_finding(alloc, examples)? {
@@ -58,19 +58,19 @@ pub fn verdict_on(alloc: Global, examples: &[Rc<Example>]) -> Result<Verdict, Me
 }
 
 /// The first example with a foreign constant, and the first such constant.
-fn domain_finding(examples: &[Rc<Example>]) -> Option<Verdict>
-    ensures { option_map finding_of result ≡ domain_finding (pairs_of examples.now) }
+fn domain_finding(examples: &[Rc<Example>]) -> Result<Option<Verdict>, Memory>
+    ensures { IfOk result (λ o. option_map finding_of o ≡ domain_finding (pairs_of examples.now)) }
 {
     for place in 0..examples.len() {
-        let example = DataExample::at(examples, place);
+        let example = DataExample::at(examples, place)?;
         if let Some(constant) = first_foreign(&example) {
-            return Some(Verdict::Domain {
+            return Ok(Some(Verdict::Domain {
                 example: place,
                 constant,
-            });
+            }));
         }
     }
-    None
+    Ok(None)
 }
 
 /// The first pair of examples with a refuting homomorphism, and the first such one. An example is paired with itself
@@ -94,7 +94,7 @@ fn first_refuted<L: Ledger>(
 {
     let mut steps = Steps::<L>::open(blank);
     for place in 0..examples.len() {
-        let example = DataExample::at(examples, place);
+        let example = DataExample::at(examples, place)?;
         let first = FirstExample::of(alloc, example)?;
         if let Some(found) = refuted_from(alloc, examples, place, &first, &mut steps)? {
             return Ok(Some(found));
@@ -116,7 +116,7 @@ fn refuted_from<L: Ledger>(
         (pairs_of examples.now)) }
 {
     for other in 0..examples.len() {
-        let second = DataExample::at(examples, other);
+        let second = DataExample::at(examples, other)?;
         if let Some(map) = first_refuting(alloc, first, &second, steps)? {
             return Ok(Some(Verdict::Refuted {
                 first: place,

@@ -84,7 +84,11 @@ impl Workspace {
             × (self.new ≡ after (request_of command.now) self.old)) }
     {
         match command {
-            Command::Fit => Ok(Reply::Found(verdict_on(self.alloc, self.examples.list())?)),
+            Command::Fit => {
+                self.examples.settle()?;
+                let found = verdict_on(self.alloc, self.examples.list())?;
+                Ok(Reply::Found(Box::new(self.alloc, found)?))
+            }
             _ => match self.apply(command) {
                 Ok(()) => Ok(Reply::Accepted),
                 Err(Refusal::For(cause)) => Ok(Reply::Refused(cause)),

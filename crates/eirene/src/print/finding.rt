@@ -131,7 +131,10 @@ fn print_moves_at(
         ++ flat_map (moved_text workspace.now.names map.now) (consts (source_at workspace.now.work.desk.history.list place))) }
 {
     match workspace.examples.list().get(place) {
-        Some(example) => print_moves(&workspace.names, example.source.values(), map, out),
+        Some(example) => {
+            let source = example.source.indexed()?;
+            print_moves(&workspace.names, source.values(), map, out)
+        }
         None => Ok(()),
     }
 }

@@ -7,7 +7,7 @@ ghost use Rattle.eir_term.specs.Search.{start_of};
 ghost use Rattle.eirene.specs.Constants.{AreNumbered, IsNumbered};
 
 use crate::data_example::DataExample;
-use eir_inst::Instance;
+use eir_inst::{Indexed, Instance};
 use eir_term::{Map, Memory, Val};
 use std::alloc::Global;
 use std::marker::Model;
@@ -44,7 +44,7 @@ impl<'a> FirstExample<'a> {
     pub fn of(alloc: Global, example: DataExample<'a>) -> Result<FirstExample<'a>, Memory>
         ensures { IfOk result (λ f. f ≡ example.entry) }
     {
-        let constants = numbered_constants(alloc, example.source(), example.target())?;
+        let constants = numbered_constants(alloc, example.source_facts(), example.target_facts())?;
         Ok(FirstExample { example, constants })
     }
 
@@ -103,8 +103,8 @@ impl Constant {
 /// The constants of the target, each with its number among the values of the source.
 fn numbered_constants(
     alloc: Global,
-    source: &Instance,
-    target: &Instance,
+    source: &Indexed,
+    target: &Indexed,
 ) -> Result<Vec<Constant>, Memory>
     ensures { IfOk result (λ v. AreNumbered (values source.now.facts) (consts target.now.facts) v.items) }
 {

@@ -43,12 +43,13 @@ loop-place-preserved c =
     let bound = c.known_among.ensures.within in
     let within : n ≤ length c.as_slice-in-loop-place.result.now = omega arith in
     let rel : f.rel < 4294967296 = omega arith in
-    let count : c.count_of.result < 18446744073709551616 = omega arith in
+    let count : c.count_in.result < 18446744073709551616 = omega arith in
     record {
       seats = c.in_ok-push.ensures.items
           ∙ ap₂ (λ (m k : ℕ). let s : Seat = record { view = record { rel = f.rel; arity = m; bound = n; count = k }; is_listed = false } in ss ++ s ∷ []) (ap length c.as_slice-in-loop-place.ensures.values)
-          c.count_of.ensures
+          c.count_in.ensures.count
           ∙ seats-more K c.args.b.now.facts c.args.start.now c.args.known.now c.loop-place.place n f c.numbers_at.result.now ss c.requires there numbers c.known_among.ensures.known c.loop-place.invariant.seats;
       views = subst (λ xs. AreViews xs) (sym c.in_ok-push.ensures.items) (AreViews-push ss _ c.loop-place.invariant.views
-          (IsView-filled f.rel n (length c.as_slice-in-loop-place.result.now) c.count_of.result rel c.as_slice-in-loop-place.ensures.some c.as_slice-in-loop-place.ensures.few within count));
+          (IsView-filled f.rel n (length c.as_slice-in-loop-place.result.now) c.count_in.result rel c.as_slice-in-loop-place.ensures.some c.as_slice-in-loop-place.ensures.few within count));
+      counts = c.count_in.ensures.known;
     }

@@ -1,4 +1,4 @@
-use Rattle.std.proofs.Common.{ℕ, Bool, ap₂, ◌≡◌, ◌≤◌, ◌<◌, ◌∙◌, ◌++◌, ◌∷◌, [], get_or, length, map, vec_capacity, ◌==◌, ap, sym, subst, arith}
+use Rattle.std.proofs.Common.{ℕ, Bool, ap₂, ◌≡◌, ◌∙◌, ◌++◌, ◌∷◌, [], get_or, length, map, vec_capacity, ◌==◌, ap, sym, subst, arith}
 use Rattle.std.proofs.lemmas.List.{map-append, length-map}
 use Rattle.eir_term.specs.Lists.{◌∈◌}
 use Rattle.eir_hom.specs.FactRows.{Within, numbers_at}

@@ -1,6 +1,5 @@
-use Rattle.std.proofs.Common.{◌<◌, ◌≤◌, ◌+◌, ◌≡◌, ◌∙◌, [], ℕ, List, length, ◌++◌, ◌∷◌, ap, sym, subst, take, vec_capacity, arith}
+use Rattle.std.proofs.Common.{◌<◌, ◌∙◌, [], ℕ, List, length, ◌++◌, ◌∷◌, ap, sym, subst, take, arith}
 use Rattle.std.proofs.lemmas.List.{length-append, length-take}
-use Rattle.std.specs.List.{flat_map}
 use Rattle.eir_term.specs.Lists.{◌∈◌}
 use Rattle.eir_hom.specs.declared.tables.Range.{Range}
 use Rattle.eir_hom.specs.FactRows.{row_at}

@@ -1,4 +1,4 @@
-use Rattle.std.proofs.Common.{◌≤◌, ◌<◌, ◌+◌, ◌∙◌, sym, subst, ap, get_or, length, take, drop, vec_capacity, arith}
+use Rattle.std.proofs.Common.{sym, subst, ap, get_or, length, arith}
 use Rattle.eir_hom.specs.FactRows.{Within, row_at}
 use Rattle.std.proofs.lemmas.Bool.{false≢true}
 use Rattle.eir_hom.proofs.TableLaws.{numbers-read, ∈-at, row-left}

@@ -1,14 +1,14 @@
-use Rattle.std.proofs.Common.{sym, subst}
-use Rattle.eir_inst.specs.Indexes.{IsIndex}
-use Rattle.eir_inst.proofs.IndexLaws.{from-err, from-ok, appended, cut-back}
+use Rattle.std.proofs.Common.{◌∙◌, not, ap, sym}
+use Rattle.std.proofs.lemmas.Bool.{false≢true}
+use Rattle.std.proofs.lemmas.Bool.Decides.{Decides-eqb}
+use Rattle.std.specs.Vec.{vec_len}
+use Rattle.eir_inst.proofs.LayerLaws.{more-own, nothing-of}
 use Rattle.eir_inst.proofs.instance.append.Goals as goal
 
-pub returns-then-is_err-clause-index : goal.returns-then-is_err-clause-index
-returns-then-is_err-clause-index c = λ i.
-    subst (λ fs. IsIndex fs c.index_at-pushed.new.index)
-    (sym (cut-back c.args.facts.now.keys c.insert.new.self.keys c.truncate.new.self.keys c.args.fact c.len-place.result (appended c.args.facts.now.keys c.insert.new.self.keys c.args.fact c.requires c.in_ok-insert.ensures.keys) c.len-place.ensures.len c.truncate.ensures.keys))
-    (from-err c.index_at-pushed.result c.is_err.result c.is_err.ensures.value c.if-is_err.true c.index_at-pushed.ensures.err c.args.facts.now.keys i)
+pub push_marked-requires : goal.push_marked-requires
+push_marked-requires c = λ h. false≢true (sym (c.is_none.ensures ∙ ap not c.if-is_none.true) ∙ c.place_of.ensures.absent.1 h)
 
-pub returns-else-is_err-clause-index : goal.returns-else-is_err-clause-index
-returns-else-is_err-clause-index c = λ i.
-    from-ok c.index_at-pushed.result c.is_err.result c.is_err.ensures.value c.if-is_err.false c.index_at-pushed.ensures.ok c.args.facts.now.keys c.args.fact (appended c.args.facts.now.keys c.insert.new.self.keys c.args.fact c.requires c.in_ok-insert.ensures.keys) (sym c.len-place.ensures.len) i
+pub returns-in-Own-clause-ok : goal.returns-in-Own-clause-ok
+returns-in-Own-clause-ok c =
+    more-own c.push_marked.result c.in-Own.facts c.push_marked.new.facts c.args.base.now c.args.gone.now.items c.push_marked.new.gone.items c.args.added.now.items c.args.fact c.in-Own.is
+    (nothing-of c.args.added.now.items (sym c.args.added.now.ok.0 ∙ (Decides-eqb (vec_len c.args.added.now) 0).0 (sym c.if-is_empty.ensures))) c.requires c.push_marked.ensures.facts c.push_marked.ensures.gone

@@ -10,6 +10,6 @@ first (f ∷ fs) l = (f, inl refl)
 
 pub glav_dependency-requires : goal.glav_dependency-requires
 glav_dependency-requires c =
-    let same : c.as_slice.result.now ≡ c.args.example.now.target = c.as_slice.ensures.facts ∙ ap (λ i. i.facts) c.deref.ensures ∙ c.target.ensures in
+    let same : c.as_slice.result.now ≡ c.args.example.now.target = c.as_slice.ensures.facts ∙ c.target_facts.ensures in
     let f = first c.as_slice.result.now c.in-len1-up.len_at_least in
     c.requires f.0 (subst (λ xs. f.0 ∈ xs) same f.1)

@@ -7,12 +7,12 @@ use Rattle.eirene.proofs.verdict.refuted_from.Goals as goal
 
 pub returns-in-Some : goal.returns-in-Some
 returns-in-Some g c =
-    sym (first_finding-found (λ j f. option_map (refuted c.args.place j) (first_refuting c.args.first.now f)) (pairs_of c.args.examples.now) c.loop-other.other c.at-second.result (refuted c.args.place c.loop-other.other c.in-Some.map) c.at-second.ensures
+    sym (first_finding-found (λ j f. option_map (refuted c.args.place j) (first_refuting c.args.first.now f)) (pairs_of c.args.examples.now) c.loop-other.other c.in_ok-second.second (refuted c.args.place c.loop-other.other c.in-Some.map) c.in_ok-second.ensures
     (ap (λ o. option_map (refuted c.args.place c.loop-other.other) o) (sym c.in_ok-map.ensures ∙ c.in-Some.is))) ∙ c.loop-other.invariant
 
 pub loop-other-preserved : goal.loop-other-preserved
 loop-other-preserved g c =
-    first_finding-passed (λ j f. option_map (refuted c.args.place j) (first_refuting c.args.first.now f)) (pairs_of c.args.examples.now) c.loop-other.other c.at-second.result c.at-second.ensures
+    first_finding-passed (λ j f. option_map (refuted c.args.place j) (first_refuting c.args.first.now f)) (pairs_of c.args.examples.now) c.loop-other.other c.in_ok-second.second c.in_ok-second.ensures
     (ap (λ o. option_map (refuted c.args.place c.loop-other.other) o) (sym c.in_ok-map.ensures ∙ none-from c.in_ok-map.field-0 c.in_default.not-Some)) ∙ c.loop-other.invariant
 
 pub returns : goal.returns

@@ -1,7 +1,6 @@
-use Rattle.std.proofs.Common.{◌≡◌, ◌<◌, [], length, get_or, sym, ap, ◌∙◌, arith}
+use Rattle.std.proofs.Common.{◌≡◌, ◌<◌, length, sym, ap, arith}
 use Rattle.eir_term.specs.Instances.{values}
-use Rattle.eir_hom.specs.Fits.{AreFits, are_fits}
-use Rattle.eir_hom.specs.Groups.{AllUnder}
+use Rattle.eir_hom.specs.Fits.{are_fits}
 use Rattle.eir_hom.proofs.FitLaws.{fits-none}
 use Rattle.eir_hom.proofs.StockLaws.{length-fits, length-answers}
 use Rattle.eir_hom.proofs.fits.Fits.pass.Goals as goal

@@ -1,4 +1,4 @@
-use Rattle.std.proofs.Common.{ap, length, map, ◌∙◌, ◌+◌, ◌≡◌, sym, arith}
+use Rattle.std.proofs.Common.{ap, length, ◌≡◌, arith}
 use Rattle.std.proofs.lemmas.List.{length-append}
 use Rattle.eir_hom.specs.FactRows.{row_at}
 use Rattle.eir_hom.specs.Layouts.{laid}

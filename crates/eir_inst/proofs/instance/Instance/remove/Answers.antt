@@ -1,22 +1,28 @@
-use Rattle.std.proofs.Common.{ap, sym, subst, arith, length}
-use Rattle.eir_term.specs.Lists.{IsDistinct}
-use Rattle.eir_term.specs.Facts.{fact_eq, fact_eq-decides}
-use Rattle.eir_term.proofs.ListLaws.{IsDistinct-without}
-use Rattle.eir_inst.proofs.RemoveLaws.{length-without, there-iff}
+use Rattle.std.proofs.Common.{◌≡◌, ◌∙◌, ◌++◌, ap, sym, subst}
+use Rattle.std.proofs.lemmas.Bool.{false≢true}
+use Rattle.eir_term.specs.Lists.{◌∈◌, without}
+use Rattle.eir_term.specs.Facts.{fact_eq}
+use Rattle.eir_inst.specs.BoundedFacts.{BoundedFacts}
+use Rattle.eir_inst.specs.Layers.{staying, layered}
+use Rattle.eir_inst.proofs.WithoutLaws.{without-absent}
+use Rattle.eir_inst.proofs.LayerLaws.{IsLayered-taken, IsLayered-same}
 use Rattle.eir_inst.proofs.instance.Instance.remove.Goals as goal
 
 pub invariant_of-self : goal.invariant_of-self
 invariant_of-self c =
-    let l = length-without c.args.fact.now c.self.inside.facts.keys in
-    let n = c.self.invariant.1 in
-    let e = ap length c.take_out.ensures.facts in (
-      subst (λ fs. IsDistinct fs) (sym c.take_out.ensures.facts) (IsDistinct-without fact_eq fact_eq-decides c.args.fact.now c.self.inside.facts.keys c.self.invariant.0),
-      omega arith,
-      c.take_out.ensures.index,
-    )
+    IsLayered-taken c.self.inside.base c.self.inside.gone.items c.take_out.new.gone.items c.self.inside.added.items c.take_out.new.added.items c.self.inside.count c.self.inside.limit c.args.fact.now c.self.invariant c.take_out.ensures.marked
+    (subst (λ fs. staying fs c.take_out.new.gone.items ++ c.take_out.new.added.items ≡ without fact_eq c.args.fact.now (staying fs c.self.inside.gone.items ++ c.self.inside.added.items)) c.indexed.ensures c.take_out.ensures.facts)
+    (subst (λ fs. c.args.fact.now ∈ (staying fs c.self.inside.gone.items ++ c.self.inside.added.items)) c.indexed.ensures (c.take_out.ensures.there.0 c.if-take_out.true))
 
-pub returns-in-Some-clause-there : goal.returns-in-Some-clause-there
-returns-in-Some-clause-there c = there-iff _ c.args.fact.now c.self.inside.facts.keys c.args.self.now.facts (ap (λ b. b.facts) c.self.view_is) c.in-Some.ensures.found
+same : (c : goal.Else-take_out) → layered c.self.inside.base c.take_out.new.gone.items c.take_out.new.added.items ≡ layered c.self.inside.base c.self.inside.gone.items c.self.inside.added.items
+same c =
+    subst (λ fs. staying fs c.take_out.new.gone.items ++ c.take_out.new.added.items ≡ staying fs c.self.inside.gone.items ++ c.self.inside.added.items) c.indexed.ensures
+    (c.take_out.ensures.facts ∙ without-absent c.args.fact.now (staying c.indexed.result.now.facts c.self.inside.gone.items ++ c.self.inside.added.items) (λ h. false≢true (sym c.if-take_out.false ∙ c.take_out.ensures.there.1 h)))
 
-pub returns-in-None-clause-there : goal.returns-in-None-clause-there
-returns-in-None-clause-there c = there-iff _ c.args.fact.now c.self.inside.facts.keys c.args.self.now.facts (ap (λ b. b.facts) c.self.view_is) c.in-None.ensures.found
+pub invariant_of-self-else-take_out : goal.invariant_of-self-else-take_out
+invariant_of-self-else-take_out c =
+    IsLayered-same c.self.inside.base c.self.inside.base c.self.inside.gone.items c.take_out.new.gone.items c.self.inside.added.items c.take_out.new.added.items c.self.inside.count c.self.inside.limit c.self.invariant
+    (c.take_out.ensures.marked ∙ c.self.invariant.marked) (same c)
+
+pub returns-else-take_out-clause-err : goal.returns-else-take_out-clause-err
+returns-else-take_out-clause-err c = ap (λ fs. let b : BoundedFacts = record { facts = fs; limit = c.self.inside.limit } in b) (same c) ∙ c.self.view_is

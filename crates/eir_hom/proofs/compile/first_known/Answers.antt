@@ -1,6 +1,0 @@
-use Rattle.std.proofs.Common.{length}
-use Rattle.eir_hom.proofs.Tallies.{AllUnder-at}
-use Rattle.eir_hom.proofs.compile.first_known.Goals as goal
-
-pub bounds-known-numbers : goal.bounds-known-numbers
-bounds-known-numbers c = AllUnder-at (length c.args.known.now) c.args.numbers.now c.loop-column.column 0 c.requires c.loop-column-test.true

@@ -1,7 +1,0 @@
-use Rattle.std.proofs.Common.{◌==◌, ◌∙◌, ap, length}
-use Rattle.eir_term.specs.declared.fact.Fact.{Fact}
-use Rattle.eir_inst.proofs.PlaceLaws.{length-places}
-use Rattle.eir_inst.proofs.instance.Instance.count_of.Goals as goal
-
-pub returns : goal.returns
-returns c = ap length c.places_of.ensures ∙ length-places (λ (f : Fact). f.rel == c.args.rel) 0 c.args.self.now.facts

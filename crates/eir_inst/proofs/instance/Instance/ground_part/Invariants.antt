@@ -1,6 +1,0 @@
-use Rattle.std.proofs.Common.{◌≡◌, take, filter}
-use Rattle.eir_term.specs.Instances.{is_ground}
-use Rattle.eir_inst.proofs.instance.Instance.ground_part.Given as goal
-
-abbrev pub invariant-loop-fact : goal.invariant-loop-fact
-invariant-loop-fact l = record { facts : l.part.facts ≡ filter is_ground (take l.fact-index l.facts); limit : l.part.limit ≡ l.fn.self.limit }
