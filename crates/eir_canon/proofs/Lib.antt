@@ -1,0 +1,4 @@
+mod VariableLaws
+mod GavLaws
+mod PairLaws
+mod PositionLaws

@@ -1,0 +1,4 @@
+mod StartLaws
+mod StageLaws
+mod TurnLaws
+mod VerdictLaws

@@ -1,0 +1,5 @@
+mod PrefixLaws
+mod ValueLaws
+mod PositionLaws
+mod NumberLaws
+mod ImageLaws

@@ -1,0 +1,2 @@
+mod ForeignLaws
+mod FoldLaws
