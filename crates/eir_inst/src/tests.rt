@@ -312,10 +312,10 @@ fn keeps_all_where_all_are_ground(rt: HostRuntime) -> Result<(), Fail> {
 }
 
 /// A copy of a copy that has, in place of P(b1), the facts of P with so many constants from 10 on.
-fn grown(alloc: Global, from: &Instance, count: u64) -> Result<Instance, Fail> {
+fn grown(alloc: Global, from: &Instance, count: u32) -> Result<Instance, Fail> {
     let mut copy = from.copy()?;
     take(alloc, &mut copy, 1)?;
-    put_all(alloc, &mut copy, P, 10, 10 + count)?;
+    put_all(alloc, &mut copy, P, 10, 10 + count as u64)?;
     Ok(copy.copy()?)
 }
 
@@ -325,15 +325,15 @@ fn is_small(instance: &Instance) -> bool {
 }
 
 /// Whether the facts are P(b2) and those of so many constants from 10 on.
-fn is_grown(instance: &Instance, count: u64) -> bool {
-    instance.len() as u64 == count + 1
+fn is_grown(instance: &Instance, count: u32) -> bool {
+    instance.len() as u64 == count as u64 + 1
         && has_at(instance, 0, 2)
         && has_at(instance, 1, 10)
-        && has_at(instance, instance.len() - 1, 9 + count)
+        && has_at(instance, instance.len() - 1, 9 + count as u64)
 }
 
 /// Whether a copy that differs by so many facts has them, and leaves the original as it was.
-fn differs_by(alloc: Global, count: u64) -> Result<bool, Fail> {
+fn differs_by(alloc: Global, count: u32) -> Result<bool, Fail> {
     let mut first = Instance::new(alloc, 512);
     put_all(alloc, &mut first, P, 1, 3)?;
     let copy = grown(alloc, &first, count)?;
