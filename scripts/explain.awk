@@ -27,7 +27,7 @@ function done(    name) {
         relations = relations (relations == "" ? "" : "; ") tidied
     } else if (word[1] == "undo") {
         edits--; present = old_present[edits % 32]; facts[old_name[edits % 32]] = old_facts[edits % 32]
-    } else {
+    } else if (word[1] != "kind") {
         edit(word[2], word[3])
     }
 }
@@ -119,6 +119,20 @@ function becomes(fact, other,    value, wanted, chosen, count, k) {
     }
     return 1
 }
+# The facts of a target that have a null, and for each whether it alone could become a fact without nulls of this target.
+function unfolded(name,    fact, other, count, k, j, found, lacking) {
+    say("the target of " name " is not part of its own facts without nulls, whatever its nulls stand for")
+    count = split(facts[name], fact, " "); split(facts[name], other, " ")
+    for (k = 1; k <= count; k++) {
+        if (declared[relation(fact[k])] !~ /^target/ || fact[k] !~ /\?/) continue
+        found = 0
+        for (j = 1; j <= count && !found; j++) if (other[j] !~ /\?/ && becomes(fact[k], other[j])) found = j
+        if (!found) { lacking = 1; say(fact[k] " becomes no fact without nulls of " name) }
+        else say(fact[k] " alone can become " other[found])
+    }
+    if (!lacking) say("each fact alone can become one without nulls; no choice for the nulls suits all of them at once")
+    say("see `fold` in docs/verdicts.md")
+}
 function refuted(first, second, parts,    k, fact, other, count, others, j, found, lacking, at) {
     split("", image)
     for (k = 4; k <= parts; k++) { at = index(part[k], "->"); image[substr(part[k], 1, at - 1)] = substr(part[k], at + 2) }
@@ -139,6 +153,7 @@ BEGIN {
     script = ARGV[1]; replies = ARGV[2]; present = " "; edits = 0
     form["source"] = "source R(c,..)"; form["target"] = "target R(c,..)"; form["new"] = "new E"; form["drop"] = "drop E"
     form["put"] = "put E R(a,..)"; form["cut"] = "cut E R(a,..)"; form["undo"] = "undo"; form["fit"] = "fit"
+    form["kind"] = "kind glav` or `kind gav"
     for (number = 1; (getline line < script) > 0; number++) {
         line = without_return(line)
         if (is_silent(line)) continue
@@ -147,10 +162,11 @@ BEGIN {
         for (rest = following(reply); rest > 0; rest--) getline skipped < replies
         tidied = tidy(line); split(tidied, word, " "); parts = split(reply, part, " ")
         if (part[1] == "ok") done()
-        if (part[1] !~ /^(refused|domain|refuted)$/) continue
+        if (part[1] !~ /^(refused|domain|fold|refuted)$/) continue
         print place reply; explained = 1
         if (part[1] == "refused") refusal()
         if (part[1] == "domain") foreign(part[2], part[3])
+        if (part[1] == "fold") unfolded(part[2])
         if (part[1] == "refuted") refuted(part[2], part[3], parts)
     }
     exit explained

@@ -1,22 +1,16 @@
 -- The examples that are lent, one after another, and their canonical mapping.
-use Rattle.std.proofs.Common.{◌≡◌, ℕ, zero, suc, ◌+◌, ◌<◌, inl, inr, None, List, [], ◌∷◌, ◌++◌, map, flat_map, length, take, get_or, refl, sym, ◌∙◌, ap, append_assoc, arith}
-use Rattle.std.proofs.lemmas.List.{append-nil}
-use Rattle.eir_term.specs.declared.val.Kind.{Kind}
-use Rattle.eir_term.specs.declared.val.Kind.TheVariants.{Glav, Gav}
-use Rattle.eir_term.specs.declared.fact.Fact.{Fact}
+use Rattle.std.proofs.Common.{◌≡◌, ℕ, zero, suc, ◌<◌, inl, inr, None, List, [], ◌∷◌, length, get_or, ap, arith}
 use Rattle.eir_term.specs.Lists.{◌∈◌}
 use Rattle.eir_term.specs.Instances.{IsSource}
-use Rattle.eir_term.specs.Dependencies.{Dependency}
-use Rattle.eir_term.specs.Fitting.{DataExample}
-use Rattle.eir_term.specs.Canonical.{canon}
 use Rattle.eir_term.specs.Headline.{AllSources}
 use Rattle.eir_term.specs.Verdicts.{domain_finding}
 use Rattle.eir_term.proofs.VerdictLaws.{none-foreign}
-use Rattle.eir_canon.specs.Pairs.{Shared, pair_of, pairs_of}
-use Rattle.eir_canon.specs.Parts.{HasNoForeign, dependencies_of}
+use Rattle.eir_edit.specs.Pairs.{Shared, pair_of, pairs_of}
+use Rattle.eir_canon.specs.Parts.{HasNoForeign}
 
 -- the instances of an example that is lent are among those of all
-∈-pairs_of : (xs : List Shared) (i : ℕ) (d x : Shared) → i < length xs → x ≡ get_or xs i d → pair_of x.value ∈ pairs_of xs
+∈-pairs_of : (xs : List Shared) (i : ℕ) (d x : Shared) → i < length xs → x ≡ get_or xs i d → pair_of x.value ∈ pairs_of
+    xs
 ∈-pairs_of [] i d x l e = absurd (omega arith)
 ∈-pairs_of (y ∷ xs) zero d x l e = inl (ap (λ (z : Shared). pair_of z.value) e)
 ∈-pairs_of (y ∷ xs) (suc i) d x l e = inr (∈-pairs_of xs i d x (omega arith) e)

@@ -1,3 +1,2 @@
 -- In the order of reading.
-pub mod Pairs
 pub mod Parts

@@ -7,7 +7,7 @@ ghost use Rattle.eir_term.specs.Values.{is_null};
 ghost use Rattle.eir_term.specs.Instances.{is_ground, ground_part};
 ghost use Rattle.eir_term.specs.Dependencies.{IsDependency};
 ghost use Rattle.eir_term.specs.Canonical.{atom_of, gav_dependency};
-ghost use Rattle.eir_canon.specs.Pairs.{paired};
+ghost use Rattle.eir_edit.specs.Pairs.{paired};
 ghost use Rattle.eir_canon.specs.Parts.{HasNoForeign, implies};
 
 use crate::variables::Variables;

@@ -3,7 +3,7 @@ ghost use Rattle.std.specs.Prelude.{◌≡◌, ◌++◌, IfOk, OnOk};
 ghost use Rattle.eir_term.specs.Instances.{IsSource};
 ghost use Rattle.eir_term.specs.Dependencies.{IsDependency};
 ghost use Rattle.eir_term.specs.Canonical.{glav_dependency, unless_empty};
-ghost use Rattle.eir_canon.specs.Pairs.{paired};
+ghost use Rattle.eir_edit.specs.Pairs.{paired};
 ghost use Rattle.eir_canon.specs.Parts.{HasNoForeign};
 
 use crate::variables::Variables;

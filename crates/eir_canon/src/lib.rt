@@ -11,13 +11,15 @@
 //!
 //! # What a contract sees
 //!
-//! An example is seen as that of `eir_edit`; `pairs_of` of `specs/Pairs` are the instances of examples that are lent.
-//! The mapping is `canon` of `eir_term`'s `specs/Canonical`.
+//! An example is seen as that of `eir_edit`; `pairs_of` of its `specs/Pairs` are the instances of examples that are
+//! lent. The mapping is `canon` of `eir_term`'s `specs/Canonical`.
 #![tactic(auto)]
 
 mod gav;
 mod glav;
 mod mapping;
+#[cfg(test)]
+mod tests;
 mod variables;
 
 pub use mapping::canonical;

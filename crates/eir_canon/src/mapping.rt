@@ -4,7 +4,7 @@ ghost use Rattle.eir_term.specs.Instances.{IsSource};
 ghost use Rattle.eir_term.specs.Canonical.{canon};
 ghost use Rattle.eir_term.specs.Headline.{AllSources};
 ghost use Rattle.eir_term.specs.Verdicts.{domain_finding};
-ghost use Rattle.eir_canon.specs.Pairs.{pair_of, paired, pairs_of};
+ghost use Rattle.eir_edit.specs.Pairs.{pair_of, paired, pairs_of};
 ghost use Rattle.eir_canon.specs.Parts.{HasNoForeign, dependencies_of};
 
 use crate::gav::push_gav;
@@ -59,7 +59,8 @@ fn push_between(
 ) -> Result<(), Memory>
     requires clean { IsSource source.now.facts }
     requires known { HasNoForeign (paired source.now.facts target.now.facts) }
-    ensures { OnOk result (mapping.new ≡ mapping.old ++ dependencies_of kind (paired source.now.facts target.now.facts)) }
+    ensures { OnOk result (mapping.new ≡ mapping.old
+        ++ dependencies_of kind (paired source.now.facts target.now.facts)) }
 {
     match kind {
         Kind::Glav => push_glav(alloc, mapping, source, target),

@@ -1,4 +1,5 @@
 mod StartLaws
+mod ForeignLaws
 mod StageLaws
 mod TurnLaws
 mod VerdictLaws

@@ -1,15 +1,11 @@
 -- What a contract sees of the test of a pair of examples (this project's own).
 --   Trial           == the pair, what was found, and the tries that are still to come
---   paired I J      == two lists of facts as an example
---   pair_of x       == the example without its name and version
 --   begun_trial e f == the trial where no try was made yet
 --   refuting_of v   == the refuting homomorphism of a verdict
 use Rattle.std.specs.Prelude.{ℕ, List, [], Option, Some, None}
 use Rattle.eir_term.specs.declared.val.Val.{Val}
-use Rattle.eir_term.specs.declared.fact.Fact.{Fact}
 use Rattle.eir_term.specs.Fitting.{DataExample}
 use Rattle.eir_term.specs.Search.{need, pairneed}
-use Rattle.eir_edit.specs.Histories.{Example}
 use Rattle.eir_ext.specs.declared.verdict.PairVerdict.{PairVerdict}
 use Rattle.eir_ext.specs.declared.verdict.PairVerdict.TheVariants.{Extends, Fails}
 
@@ -21,14 +17,6 @@ pub record Trial : Type 0 where
   pub refuting : Option (List (Val × Val))
   pub tries : ℕ
   pub source_tries : ℕ
-
--- these two lists of facts as an example
-abbrev pub paired : List Fact → List Fact → DataExample
-paired I J = record { source = I; target = J }
-
--- the example without its name and version
-abbrev pub pair_of : Example → DataExample
-pair_of x = record { source = x.source; target = x.target }
 
 -- the trial where no try was made yet
 abbrev pub begun_trial : DataExample → DataExample → Trial

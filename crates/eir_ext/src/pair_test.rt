@@ -3,7 +3,8 @@ ghost use Rattle.std.specs.Prelude.{◌≡◌, ◌≢◌, ◌+◌, ◌-◌, ◌<
 ghost use Rattle.eir_term.specs.declared.val.Val.{Val};
 ghost use Rattle.eir_term.specs.Search.{homs};
 ghost use Rattle.eir_term.specs.Verdicts.{first_foreign, first_refuting};
-ghost use Rattle.eir_ext.specs.Trials.{pair_of, begun_trial};
+ghost use Rattle.eir_edit.specs.Pairs.{pair_of};
+ghost use Rattle.eir_ext.specs.Trials.{begun_trial};
 ghost use Rattle.eir_ext.specs.Searching.{first_trial};
 
 use crate::Turn;

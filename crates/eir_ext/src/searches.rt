@@ -3,7 +3,8 @@ ghost use Rattle.std.specs.Prelude.{◌≡◌, ◌+◌, ◌<◌, ◌≤◌, List
 ghost use Rattle.eir_term.specs.declared.val.Val.{Val};
 ghost use Rattle.eir_term.specs.Search.{homs};
 ghost use Rattle.eir_term.specs.Verdicts.{first_foreign};
-ghost use Rattle.eir_ext.specs.Trials.{pair_of, begun_trial};
+ghost use Rattle.eir_edit.specs.Pairs.{pair_of};
+ghost use Rattle.eir_ext.specs.Trials.{begun_trial};
 ghost use Rattle.eir_ext.specs.Searching.{AreSearches, EndsAs, GoOn, first_trial, trial_of, turns_left};
 
 use crate::Turn;

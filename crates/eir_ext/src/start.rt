@@ -5,7 +5,7 @@ ghost use Rattle.eir_term.specs.Instances.{consts, values};
 ghost use Rattle.eir_term.specs.Maps.{domain_of, graph, image};
 ghost use Rattle.eir_term.specs.Search.{constants_fixed};
 ghost use Rattle.eir_term.specs.Verdicts.{first_foreign};
-ghost use Rattle.eir_ext.specs.Trials.{pair_of, paired};
+ghost use Rattle.eir_edit.specs.Pairs.{pair_of, paired};
 ghost use Rattle.eir_ext.specs.Searching.{AreNumbers};
 
 use eir_edit::Example;

@@ -2,7 +2,8 @@
 ghost use Rattle.std.specs.Prelude.{◌≡◌, ◌+◌, ◌-◌, ◌<◌, ◌≤◌, [], None, IfOk, Err, Ok};
 ghost use Rattle.eir_term.specs.Search.{need, pairneed};
 ghost use Rattle.eir_term.specs.Verdicts.{first_foreign, first_refuting};
-ghost use Rattle.eir_ext.specs.Trials.{pair_of, refuting_of};
+ghost use Rattle.eir_edit.specs.Pairs.{pair_of};
+ghost use Rattle.eir_ext.specs.Trials.{refuting_of};
 
 use crate::{PairTest, Turn};
 use eir_edit::Example;

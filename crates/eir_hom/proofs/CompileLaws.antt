@@ -26,7 +26,7 @@ use Rattle.eir_hom.specs.Courses.{shapes_of}
 use Rattle.eir_hom.specs.Lazy.{all_levels}
 use Rattle.eir_hom.specs.Compiling.{Draft, given_image, drafts_of, first_set, marked, shapes_by, slot_in, draft_level, bindings_from, ArePlaces, AreDrafts, AreReadyDrafts}
 use Rattle.eir_hom.proofs.ColumnLaws.{same-refl}
-use Rattle.eir_hom.proofs.StockLaws.{get_or-found, slice_get-there, number-found, numbers-are, args-among, length-but_at}
+use Rattle.eir_hom.proofs.StockLaws.{get_or-found, slice_get-there, number-found, numbers-are, args-among, length-but_at, stride-is}
 use Rattle.eir_hom.proofs.StartLaws.{map-at}
 use Rattle.eir_hom.proofs.ImageLaws.{bindings-are}
 use Rattle.eir_hom.proofs.DraftingLaws.{drafts-are}
@@ -328,13 +328,7 @@ flags-are : (B : List Fact) (start : List (Val × Val)) (vs : List Val) → map 
 flags-are B start [] = refl
 flags-are B start (v ∷ vs) = ap₂ (λ b bs. b ∷ bs) (some-if (is_known start [] v) (number B (image start v))) (flags-are B start vs)
 
--- rows of a table are as long as those of its shape
-pub stride-is : (A B : List Fact) (s : Shape) → IsShape A s → (shape_table A B s).stride ≡ row_length A s
-stride-is A B s h =
-    let t = slice_get-there A s.place h.0 in
-    let wide : length (numbers_at A s.place) ≡ length (t.0).args = ap length (numbers-are A s.place t.0 t.1) ∙ length-map (t.0).args (number A) in
-    ap (λ o. (unwrap_or (option_map (fact_table A B s.column) o) no_table).stride) t.1 ∙ sym (length-but_at s.column (numbers_at A s.place) (t.0).args wide)
-
+-- the rows of the tables are as long together as those of their shapes
 pub strides-are : (A B : List Fact) (ss : List Shape) → AreShapes A ss → sum_by (λ (t : Table). t.stride) (map (shape_table A B) ss) ≡ sum_by (row_length A) ss
 strides-are A B [] all = refl
 strides-are A B (s ∷ ss) all =

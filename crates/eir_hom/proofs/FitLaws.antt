@@ -1,11 +1,11 @@
 -- The answers for kinds of values, and for the values.
-use Rattle.std.proofs.Common.{◌≡◌, ◌≤◌, ◌<◌, ℕ, suc, ◌+◌, Bool, false, eqb, ◌&&◌, List, [], ◌∷◌, ◌++◌, map, drop, length, get_or, refl, sym, ap, ◌∙◌, subst, inl, inr, add-one, drop-cons, arith}
+use Rattle.std.proofs.Common.{◌≡◌, ◌≤◌, ◌<◌, ℕ, zero, suc, ◌+◌, Bool, false, eqb, ◌&&◌, List, [], ◌∷◌, ◌++◌, map, drop, length, get_or, refl, sym, ap, ◌∙◌, subst, inl, inr, add-one, drop-cons, arith}
 use Rattle.std.proofs.lemmas.List.{get_or-map}
 use Rattle.std.proofs.lemmas.Bool.{cases_Bool}
 use Rattle.std.proofs.lemmas.Bool.Decides.{Decides-eqb}
 use Rattle.eir_term.specs.Lists.{◌∈◌}
 use Rattle.eir_term.specs.Profiles.{Mark, is_within}
-use Rattle.eir_hom.specs.Groups.{AllUnder}
+use Rattle.eir_hom.specs.FactRows.{AllUnder}
 use Rattle.eir_hom.specs.Fits.{fits_row}
 
 -- what holds below n holds of numbers below n
@@ -17,6 +17,12 @@ pub AllUnder-∈ : (n : ℕ) (ks : List ℕ) (k : ℕ) → AllUnder n ks → k �
 AllUnder-∈ n [] k all h = elim h [ ]
 AllUnder-∈ n (j ∷ ks) k all (inl e) = subst (λ i. i < n) (sym e) all.0
 AllUnder-∈ n (j ∷ ks) k all (inr h) = AllUnder-∈ n ks k all.1 h
+
+-- and the one at a place
+pub AllUnder-at : (n : ℕ) (ks : List ℕ) (i d : ℕ) → AllUnder n ks → i < length ks → get_or ks i d < n
+AllUnder-at n [] i d all h = absurd (omega arith)
+AllUnder-at n (k ∷ ks) zero d all h = all.0
+AllUnder-at n (k ∷ ks) (suc i) d all h = AllUnder-at n ks i d all.1 (omega arith)
 
 pub AllUnder-more : (n m : ℕ) (ks : List ℕ) → n ≤ m → AllUnder n ks → AllUnder m ks
 AllUnder-more n m [] h all = tt

@@ -5,7 +5,6 @@ pub mod OrderLaws
 pub mod MarkLaws
 pub mod StepLaws
 pub mod TableLaws
-pub mod Tallies
 pub mod FitLaws
 pub mod ColumnLaws
 pub mod RowLaws
@@ -28,6 +27,7 @@ pub mod DraftLaws
 pub mod LevelLaws
 pub mod GrownLaws
 pub mod StockLaws
+pub mod LaidLaws
 pub mod ImageLaws
 pub mod CompileLaws
 pub mod PushLaws

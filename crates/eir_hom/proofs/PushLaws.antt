@@ -4,13 +4,13 @@ use Rattle.eir_term.specs.declared.fact.Fact.{Fact}
 use Rattle.eir_term.specs.Instances.{values}
 use Rattle.eir_hom.specs.Compiling.{Draft}
 use Rattle.eir_hom.specs.FactRows.{numbers_at, row_at}
-use Rattle.eir_hom.specs.Groups.{AllUnder}
+use Rattle.eir_hom.specs.FactRows.{AllUnder}
 use Rattle.eir_hom.specs.Levels.{but_at}
 use Rattle.eir_hom.specs.Tables.{Table}
 use Rattle.eir_hom.specs.Columns.{is_among, bound_slots, AreBelow}
 use Rattle.eir_hom.specs.Stocks.{no_table, IsShape}
 use Rattle.eir_hom.specs.Compiling.{AreReadyDrafts, draft_level}
-use Rattle.eir_hom.proofs.Tallies.{AllUnder-at}
+use Rattle.eir_hom.proofs.FitLaws.{AllUnder-at}
 use Rattle.eir_hom.proofs.StockLaws.{numbers-under}
 use Rattle.eir_hom.proofs.DraftLaws.{ready-drop}
 

@@ -1,6 +1,6 @@
 -- What a start gives, by number.
-use Rattle.std.proofs.Common.{◌≡◌, ◌≢◌, ◌≤◌, ◌<◌, ◌↔◌, ℕ, zero, suc, ◌+◌, ◌-◌, Bool, true, false, cond, eqb, List, [], ◌∷◌, ◌++◌, map, take, length, replicate, get_or, Option, Some, None, IfSome, set, option_map, slice_get, refl, sym, ap, ap₂, ◌∙◌, inl, inr, arith}
-use Rattle.std.proofs.lemmas.List.{get_or-map, get_or-set_other, length-map, take_more}
+use Rattle.std.proofs.Common.{◌≡◌, ◌≢◌, ◌≤◌, ◌<◌, ◌↔◌, ℕ, zero, suc, ◌+◌, ◌-◌, Bool, true, false, cond, eqb, List, [], ◌∷◌, ◌++◌, map, take, drop, length, replicate, get_or, Option, Some, None, IfSome, set, option_map, slice_get, refl, sym, ap, ap₂, ◌∙◌, inl, inr, append-nil, arith}
+use Rattle.std.proofs.lemmas.List.{get_or-map, get_or-set_other, length-map, take_more, take_all, drop_all}
 use Rattle.std.proofs.lemmas.Grind.{get_or-set_at}
 use Rattle.std.proofs.lemmas.Bool.{cases_Bool, cases_lt, false≢true}
 use Rattle.std.proofs.lemmas.Bool.Decides.{Decides-eqb}
@@ -134,3 +134,8 @@ resized n len old vs e f g =
     take-none : (n : ℕ) → ◌≡◌ {A = List (Option ℕ)} (take n []) []
     take-none zero = refl
     take-none (suc n) = refl
+
+-- a list written over one of its length
+pub written : {X : Type 0} (len : ℕ) (old new : List X) → len ≡ length old → length new ≡ length old → take len (new ++ drop (length new) old) ≡ new
+written len old new e f =
+    rw (drop_all (length new) old (omega arith), append-nil new) (take_all len new (omega arith))

@@ -1,33 +1,30 @@
 -- The rows of a table are those of the facts that a fact may go to.
-use Rattle.std.proofs.Common.{◌≡◌, ◌<◌, ◌≤◌, ℕ, zero, suc, ◌+◌, ◌*◌, Bool, true, false, cond, eqb, ◌==◌, ◌&&◌, List, [], ◌∷◌, ◌++◌, map, filter, take, drop, length, get_or, Option, Some, None, option_map, unwrap_or, slice_get, refl, sym, ap, ap₂, ◌∙◌, subst, inl, inr, add-one, append-nil, mul-le-mul_right, arith}
-use Rattle.std.proofs.lemmas.List.{get_or-map, get_or-take, map-append, take-map, drop-map, take_more, length-map, length-append, length-take, length-drop, length_push, take-take}
-use Rattle.std.proofs.lemmas.List.Sums.{sum_by-drop_more}
-use Rattle.std.proofs.lemmas.List.FromFn.{length-map-range_with_len, sum_by-map-range_with_len_more}
+use Rattle.std.proofs.Common.{◌≡◌, ◌<◌, ◌≤◌, ℕ, zero, suc, ◌+◌, Bool, true, false, cond, eqb, ◌==◌, ◌&&◌, List, [], ◌∷◌, ◌++◌, map, filter, take, drop, length, get_or, Option, Some, None, option_map, unwrap_or, slice_get, refl, sym, ap, ap₂, ◌∙◌, subst, inl, inr, append-nil, arith}
+use Rattle.std.proofs.lemmas.List.{get_or-map, map-append, take-map, drop-map, take_more, length-map, length-append, length-take, length-drop}
+use Rattle.std.proofs.lemmas.List.Sums.{sum_by-cons, sum_by-le-sum_by}
+use Rattle.std.proofs.lemmas.List.FromFn.{length-map-range_with_len, length-range_with_len, get_or-range_with_len}
 use Rattle.std.proofs.lemmas.List.Elements.{filter-append}
-use Rattle.std.proofs.lemmas.Bool.{cases_Bool, false≢true, and_parts}
+use Rattle.std.proofs.lemmas.Bool.{cases_Bool, cases_lt, false≢true, and_parts}
 use Rattle.std.proofs.lemmas.Bool.Decides.{Decides-eqb}
-use Rattle.std.specs.List.{range_with_len, flat_map, sum_by}
+use Rattle.std.proofs.lemmas.Option.{same_Some, slice_get_past}
+use Rattle.std.specs.List.{range_with_len, sum_by}
 use Rattle.eir_term.specs.declared.val.Val.{Val}
 use Rattle.eir_term.specs.declared.fact.Fact.{Fact}
 use Rattle.eir_term.specs.Lists.{◌∈◌, places}
 use Rattle.eir_term.specs.Values.{val_eq, val_eq-decides}
 use Rattle.eir_term.specs.Instances.{values}
-use Rattle.eir_term.specs.Profiles.{Mark, profile, is_within}
+use Rattle.eir_term.specs.Profiles.{Mark, has_at, profile, is_within}
 use Rattle.eir_term.specs.Plans.{fits_profiles}
-use Rattle.eir_term.proofs.ListLaws.{slice_get-place_of, ∈-filter_from, ∈-map_from}
-use Rattle.eir_hom.specs.Tables.{Table, LaidView}
-use Rattle.eir_term.proofs.HomLaws.{∈-values}
-use Rattle.eir_hom.specs.declared.fits.Fits.{Fits}
+use Rattle.eir_term.proofs.ListLaws.{slice_get-place_of, ∈-filter_from}
+use Rattle.eir_term.proofs.OrderLaws.{place_of-slice_get}
+use Rattle.eir_term.proofs.HomLaws.{∈-values, IsDistinct-values}
 use Rattle.eir_hom.specs.declared.course.Shape.{Shape}
-use Rattle.eir_hom.specs.declared.stock.Bench.{Bench}
 use Rattle.eir_hom.specs.Levels.{number, but_at, may_go, has_number, row_of, rows_for}
-use Rattle.eir_hom.specs.FactRows.{numbers_at, row_at, Within, HaveRows}
-use Rattle.eir_hom.specs.Groups.{AllUnder, picked, under}
-use Rattle.eir_hom.specs.Fits.{are_fits, fits_row, AreFits}
-use Rattle.eir_hom.specs.Stocks.{fact_table, shape_table, no_table, rel_of, IsShape, AreShapes, may_be_at, key_at, key_count, cells_for, cells_needed, ranges_needed, HasRoom, IsStocked}
-use Rattle.eir_hom.proofs.Tallies.{map-range-same, AllUnder-at, under-zero, under-more, under-le, length-picked}
+use Rattle.eir_hom.specs.FactRows.{AllUnder, HaveRows, Within, numbers_at, row_at}
+use Rattle.eir_hom.specs.Fits.{are_fits, fits_row}
+use Rattle.eir_hom.specs.Tables.{Table}
+use Rattle.eir_hom.specs.Stocks.{fact_table, shape_table, no_table, rel_of, IsShape, AreShapes, under_key, may_be_at, key_count, row_length}
 use Rattle.eir_hom.proofs.FitLaws.{AllUnder-∈, map-map, eqb-apart}
-use Rattle.eir_hom.proofs.TableLaws.{length-all_rows}
 
 -- what is found at a place
 pub get_or-found : {X : Type 0} (xs : List X) (i : ℕ) (x d : X) → slice_get xs i ≡ Some x → (i < length xs) × (get_or xs i d ≡ x)
@@ -115,10 +112,6 @@ filter-filter : {X : Type 0} (p q : X → Bool) (xs : List X) → filter p (filt
 filter-filter p q [] = refl
 filter-filter p q (x ∷ xs) = elim (cases_Bool (q x)) [ inl t ↦ rw t (ap (λ ys. cond (p x) (x ∷ ys) ys) (filter-filter p q xs)) | inr f ↦ rw f (filter-filter p q xs) ]
 
-picked-filter : (key : ℕ → ℕ) (ps : List ℕ) (w : ℕ) → picked (map key ps) ps w ≡ filter (λ p. key p == w) ps
-picked-filter key [] w = refl
-picked-filter key (p ∷ ps) w = ap (λ ys. cond (key p == w) (p ∷ ys) ys) (picked-filter key ps w)
-
 -- what is said of places is said of facts
 places-rows : {X : Type 0} (F : ℕ → X) (G : Fact → X) (q : ℕ → Bool) (q' r : Fact → Bool) (n : ℕ) (xs : List Fact) → ((k : ℕ) (g : Fact) → slice_get xs k ≡ Some g → (F (n + k) ≡ G g) × (q (n + k) ≡ q' g)) → map F (filter q (places r n xs)) ≡ map G (filter (λ g. r g && q' g) xs)
 places-rows F G q q' r n [] all = refl
@@ -161,23 +154,70 @@ eqb-sym m n = elim (cases_Bool (eqb n m))
     by true later (inr h) = later h
     by false later h = later h
 
-∈-picked : (ks xs : List ℕ) (w x : ℕ) → x ∈ picked ks xs w → x ∈ xs
-∈-picked [] xs w x h = elim h [ ]
-∈-picked (k ∷ ks) [] w x h = elim h [ ]
-∈-picked (k ∷ ks) (y ∷ xs) w x h = by (eqb k w) (∈-picked ks xs w x) h
-  where
-    by : (b : Bool) → (x ∈ picked ks xs w → x ∈ xs) → x ∈ cond b (y ∷ picked ks xs w) (picked ks xs w) → x ∈ (y ∷ xs)
-    by true later (inl e) = inl e
-    by true later (inr h) = inr (later h)
-    by false later h = inr (later h)
-
-and-true : (b : Bool) → (b && true) ≡ b
-and-true true = refl
-and-true false = refl
-
 and-apart : (a b c : Bool) → (a && (b && c)) ≡ ((a && b) && c)
 and-apart true b c = refl
 and-apart false b c = refl
+
+and-false : (a : Bool) → (a && false) ≡ false
+and-false true = refl
+and-false false = refl
+
+and-swap : (a b c : Bool) → ((a && b) && c) ≡ ((a && c) && b)
+and-swap true true true = refl
+and-swap true true false = refl
+and-swap true false true = refl
+and-swap true false false = refl
+and-swap false b c = refl
+
+filter-none : {X : Type 0} (p : X → Bool) (xs : List X) → ((x : X) → x ∈ xs → p x ≡ false) → filter p xs ≡ []
+filter-none p [] all = refl
+filter-none p (x ∷ xs) all = rw (all x (inl refl)) (filter-none p xs (λ y h. all y (inr h)))
+
+-- a place under a key is that of a fact
+under-there : (B : List Fact) (rel : ℕ) (i : Option ℕ) (key p : ℕ) → p ∈ under_key B rel i key → (g : Fact) × (slice_get B p ≡ Some g)
+under-there B rel None key p h = there (λ g. g.rel == rel) B p h
+  where
+    there : (r : Fact → Bool) (B : List Fact) (p : ℕ) → p ∈ places r 0 B → (g : Fact) × (slice_get B p ≡ Some g)
+    there r B p h =
+        let t = ∈-places r 0 p B h in
+        let z : p ≡ t.0 = t.2 ∙ (omega arith) in
+        (t.1, ap (slice_get B) z ∙ t.3)
+under-there B rel (Some i) key p h = by (slice_get (values B) key) h
+  where
+    by : (o : Option Val) → p ∈ unwrap_or (option_map (λ v. places (has_at rel i v) 0 B) o) [] → (g : Fact) × (slice_get B p ≡ Some g)
+    by None h = absurd h
+    by (Some v) h =
+        let t = ∈-places (has_at rel i v) 0 p B h in
+        let z : p ≡ t.0 = t.2 ∙ (omega arith) in
+        (t.1, ap (slice_get B) z ∙ t.3)
+
+-- a value has its number
+number-test : (B : List Fact) (w : ℕ) (v u : Val) → slice_get (values B) w ≡ Some v → u ∈ values B → val_eq v u ≡ (number B u == w)
+number-test B w v u e h =
+    let at = number-found B u h in
+    elim (cases_Bool (val_eq v u)) [
+      | inl t ↦ (let same : v ≡ u = (val_eq-decides v u).0 t in
+          let n : number B u ≡ w = place_of-slice_get val_eq val_eq-decides u (values B) w (IsDistinct-values B) (e ∙ ap Some same) in
+          t ∙ sym ((Decides-eqb (number B u) w).1 n))
+      | inr t ↦ t ∙ sym (eqb-apart (number B u) w (λ n. let same : v ≡ u = same_Some v u (sym e ∙ ap (slice_get (values B)) (sym n) ∙ at) in false≢true (sym t ∙ (val_eq-decides v u).1 same)))
+    ]
+
+-- a fact has the value at a column where it has its number there
+number-same : (B : List Fact) (i w : ℕ) (v : Val) (g : Fact) → slice_get (values B) w ≡ Some v → g ∈ B → unwrap_or (option_map (val_eq v) (slice_get g.args i)) false ≡ has_number B i w g
+number-same B i w v g e h = by (slice_get g.args i) refl
+  where
+    by : (o : Option Val) → slice_get g.args i ≡ o → unwrap_or (option_map (val_eq v) o) false ≡ unwrap_or (option_map (λ u. number B u == w) o) false
+    by None k = refl
+    by (Some u) k = number-test B w v u e (∈-values u g B h (∈-found g.args i u k))
+
+number-past : (B : List Fact) (i w : ℕ) (g : Fact) → length (values B) ≤ w → g ∈ B → has_number B i w g ≡ false
+number-past B i w g past h = by (slice_get g.args i) refl
+  where
+    by : (o : Option Val) → slice_get g.args i ≡ o → unwrap_or (option_map (λ u. number B u == w) o) false ≡ false
+    by None k = refl
+    by (Some u) k =
+        let below = (get_or-found (values B) (number B u) u u (number-found B u (∈-values u g B h (∈-found g.args i u k)))).0 in
+        eqb-apart (number B u) w (λ n. absurd (omega arith))
 
 module _ (A B : List Fact) (s : Shape) (f : Fact) (found : slice_get A s.place ≡ Some f) where
   ns : numbers_at A s.place ≡ map (number A) f.args
@@ -200,19 +240,16 @@ module _ (A B : List Fact) (s : Shape) (f : Fact) (found : slice_get A s.place �
   q p = fits_row (are_fits A B) (numbers_at A s.place) (numbers_at B p)
 
   -- a place that the fact may go to
-  gone-to : (p : ℕ) → p ∈ may_be_at A B (are_fits A B) s → (g : Fact) × (slice_get B p ≡ Some g) × (length f.args ≡ length g.args)
-  gone-to p h =
-      let m = ∈-filter_from q p (places (λ g. g.rel == rel_of A s.place) 0 B) h in
-      let t = ∈-places (λ g. g.rel == rel_of A s.place) 0 p B m.0 in
-      let e : slice_get B p ≡ Some t.1 = let z : p ≡ t.0 = t.2 ∙ (omega arith) in ap (slice_get B) z ∙ t.3 in
-      (t.1, e, fits-args t.1 (sym (goes p t.1 e) ∙ m.1) p e)
+  gone-to : (key p : ℕ) → p ∈ may_be_at A B (are_fits A B) s key → (g : Fact) × (slice_get B p ≡ Some g) × (length f.args ≡ length g.args)
+  gone-to key p h =
+      let m = ∈-filter_from q p (under_key B (rel_of A s.place) s.column key) h in
+      let g = under-there B (rel_of A s.place) s.column key p m.0 in
+      (g.0, g.1, fits-args g.0 (sym (goes p g.0 g.1) ∙ m.1) p g.1)
 
   -- it has the column, and a row of the same length
-  pub have_rows : Within s.column (numbers_at A s.place) → (ks : List ℕ) (n stride : ℕ) → stride ≡ length (but_at s.column (numbers_at A s.place)) → HaveRows B s.column stride (map (picked ks (may_be_at A B (are_fits A B) s)) (range_with_len 0 n))
-  have_rows column ks n stride e ps m p h =
-      let w = ∈-map_from (picked ks (may_be_at A B (are_fits A B) s)) ps (range_with_len 0 n) m in
-      let at : p ∈ picked ks (may_be_at A B (are_fits A B) s) w.0 = subst (λ xs. p ∈ xs) w.2 h in
-      let g = gone-to p (∈-picked ks (may_be_at A B (are_fits A B) s) w.0 p at) in
+  pub have_rows : Within s.column (numbers_at A s.place) → (key stride : ℕ) → stride ≡ length (but_at s.column (numbers_at A s.place)) → HaveRows B s.column stride (may_be_at A B (are_fits A B) s key)
+  have_rows column key stride e p h =
+      let g = gone-to key p h in
       let l : length (numbers_at A s.place) ≡ length (numbers_at B p) =
       ap length ns ∙ length-map f.args (number A) ∙ g.2 ∙ sym (ap length (numbers-are B p g.0 g.1) ∙ length-map (g.0).args (number B)) in
       (((get_or-found B p g.0 g.0 g.1).0, Within-same s.column (numbers_at A s.place) (numbers_at B p) l column), sym (e ∙ length-but_at s.column (numbers_at A s.place) (numbers_at B p) l))
@@ -220,53 +257,86 @@ module _ (A B : List Fact) (s : Shape) (f : Fact) (found : slice_get A s.place �
   row-is_of : (i : Option ℕ) (p : ℕ) (g : Fact) → slice_get B p ≡ Some g → row_at B i p ≡ row_of B i g
   row-is_of i p g e = ap (but_at i) (numbers-are B p g e)
 
-  -- the key of a place is the number at the column
-  key-is : (i p w : ℕ) (g : Fact) → i < length f.args → slice_get B p ≡ Some g → (q p && (key_at B (Some i) p == w)) ≡ (fits_profiles A B f.args g.args && has_number B i w g)
-  key-is i p w g wide e =
-      elim (cases_Bool (fits_profiles A B f.args g.args)) [
-        | inl t ↦ (let l = fits-args g t p e in
-            let v = slice_get-there g.args i (omega arith) in
-            let k : key_at B (Some i) p ≡ number B v.0 =
-            ap (λ xs. get_or xs i 0) (numbers-are B p g e) ∙ get_or-map (number B) g.args i v.0 0 (omega arith) ∙ ap (number B) (get_or-found g.args i v.0 v.0 v.1).1 in
-            let h : has_number B i w g ≡ (number B v.0 == w) = ap (λ o. unwrap_or (option_map (λ v. number B v == w) o) false) v.1 in
-            ap₂ (λ a b. a && b) (goes p g e) (ap (λ n. n == w) k ∙ sym h))
-        | inr n ↦ ap (λ a. a && (key_at B (Some i) p == w)) (goes p g e ∙ n) ∙ sym (ap (λ a. a && has_number B i w g) n)
+  -- the rows of the facts at places, of those that pass a test, are those of the facts that do
+  rows-of : (i : Option ℕ) (r test : Fact → Bool) → ((g : Fact) → g ∈ B → (r g && fits_profiles A B f.args g.args) ≡ test g) →
+      map (row_at B i) (filter q (places r 0 B)) ≡ map (row_of B i) (filter test B)
+  rows-of i r test same =
+      places-rows (row_at B i) (row_of B i) q (λ g. fits_profiles A B f.args g.args) r 0 B (λ k g h. let z : 0 + k ≡ k = omega arith in (ap (row_at B i) z ∙ row-is_of i k g h, ap q z ∙ goes k g h)) ∙ ap (map (row_of B i)) (filter-same (λ g. r g && fits_profiles A B f.args g.args) test B same)
+
+  rel-same : (g : Fact) → (g.rel == rel_of A s.place) ≡ (f.rel == g.rel)
+  rel-same g = ap (λ n. g.rel == n) rel-is ∙ eqb-sym g.rel f.rel
+
+  -- where no column is named all have one key
+  all-rows : map (row_at B None) (filter q (under_key B (rel_of A s.place) None 0)) ≡ map (row_of B None) (filter (may_go A B f) B)
+  all-rows = rows-of None (λ g. g.rel == rel_of A s.place) (may_go A B f) (λ g h. ap (λ b. b && fits_profiles A B f.args g.args) (rel-same g))
+
+  -- the rows under the number of a value
+  value-rows : (i w : ℕ) (v : Val) → slice_get (values B) w ≡ Some v →
+      map (row_at B (Some i)) (filter q (under_key B (rel_of A s.place) (Some i) w)) ≡ map (row_of B (Some i)) (filter (λ g. may_go A B f g && has_number B i w g) B)
+  value-rows i w v e =
+      let under : under_key B (rel_of A s.place) (Some i) w ≡ places (has_at (rel_of A s.place) i v) 0 B =
+      ap (λ o. unwrap_or (option_map (λ v. places (has_at (rel_of A s.place) i v) 0 B) o) []) e in
+      ap (λ ps. map (row_at B (Some i)) (filter q ps)) under ∙ rows-of (Some i) (has_at (rel_of A s.place) i v) (λ g. may_go A B f g && has_number B i w g) (λ g h. ap₂ (λ a b. (a && b) && fits_profiles A B f.args g.args) (rel-same g) (number-same B i w v g e h) ∙ and-swap (f.rel == g.rel) (has_number B i w g) (fits_profiles A B f.args g.args))
+
+  -- and under what is no value's
+  past-rows : (i w : ℕ) → length (values B) ≤ w →
+      map (row_at B (Some i)) (filter q (under_key B (rel_of A s.place) (Some i) w)) ≡ map (row_of B (Some i)) (filter (λ g. may_go A B f g && has_number B i w g) B)
+  past-rows i w past =
+      let under : under_key B (rel_of A s.place) (Some i) w ≡ [] =
+      ap (λ o. unwrap_or (option_map (λ v. places (has_at (rel_of A s.place) i v) 0 B) o) []) (slice_get_past (values B) w past) in
+      let none = filter-none (λ g. may_go A B f g && has_number B i w g) B (λ g h. ap (λ b. may_go A B f g && b) (number-past B i w g past h) ∙ and-false (may_go A B f g)) in
+      ap (λ ps. map (row_at B (Some i)) (filter q ps)) under ∙ sym (ap (map (row_of B (Some i))) none)
+
+  -- the rows of the facts at the places under a key are those that the search goes through
+  key-rows : (i : Option ℕ) (w : ℕ) → w < key_count B i → map (row_at B i) (filter q (under_key B (rel_of A s.place) i w)) ≡ get_or (rows_for A B f i) w []
+  key-rows None w h =
+      let z : w ≡ 0 = omega arith in
+      subst (λ k. map (row_at B None) (filter q (under_key B (rel_of A s.place) None k)) ≡ get_or (rows_for A B f None) k []) (sym z) all-rows
+  key-rows (Some i) w h =
+      let F : ℕ → List (List ℕ) = λ w. map (row_of B (Some i)) (filter (λ g. may_go A B f g && has_number B i w g) B) in
+      let n = suc (length (values B)) in
+      let below : w < n = omega arith in
+      let at : get_or (rows_for A B f (Some i)) w [] ≡ F w =
+      get_or-map F (range_with_len 0 n) w 0 [] (omega (arith, length-range_with_len 0 n)) ∙ ap F (get_or-range_with_len 0 n w 0 below ∙ (omega arith)) in
+      elim (cases_lt w (length (values B))) [
+        | inl l ↦ (let v = slice_get-there (values B) w l in value-rows i w v.0 v.1 ∙ sym at)
+        | inr g ↦ past-rows i w g ∙ sym at
       ]
 
-  one_key : (i : Option ℕ) (w : ℕ) (test : Fact → Bool) → ((p : ℕ) (g : Fact) → slice_get B p ≡ Some g → (q p && (key_at B i p == w)) ≡ test g) →
-      map (row_at B i) (picked (map (key_at B i) (may_be_at A B (are_fits A B) s)) (may_be_at A B (are_fits A B) s) w) ≡ map (row_of B i) (filter (λ g. (g.rel == rel_of A s.place) && test g) B)
-  one_key i w test same =
-      let r : Fact → Bool = λ g. g.rel == rel_of A s.place in
-      let e : picked (map (key_at B i) (may_be_at A B (are_fits A B) s)) (may_be_at A B (are_fits A B) s) w ≡ filter (λ p. q p && (key_at B i p == w)) (places r 0 B) =
-      picked-filter (key_at B i) (may_be_at A B (are_fits A B) s) w ∙ filter-filter (λ p. key_at B i p == w) q (places r 0 B) in
-      ap (map (row_at B i)) e ∙ places-rows (row_at B i) (row_of B i) (λ p. q p && (key_at B i p == w)) test r 0 B (λ k g h. let z : 0 + k ≡ k = omega arith in (ap (row_at B i) z ∙ row-is_of i k g h, ap (λ p. q p && (key_at B i p == w)) z ∙ same k g h))
-
-  -- the rows of the facts at the places, key by key, are those that the search goes through
-  pub made-rows : (i : Option ℕ) → Within i (numbers_at A s.place) → map (map (row_at B i)) (map (picked (map (key_at B i) (may_be_at A B (are_fits A B) s)) (may_be_at A B (are_fits A B) s)) (range_with_len 0 (key_count B i))) ≡ rows_for A B f i
-  made-rows None column =
-      let rel : (g : Fact) → (g.rel == rel_of A s.place) ≡ (f.rel == g.rel) = λ g. ap (λ n. g.rel == n) rel-is ∙ eqb-sym g.rel f.rel in
-      let rows = one_key None 0 (λ g. fits_profiles A B f.args g.args) (λ p g e. and-true (q p) ∙ goes p g e) in
-      ap (λ xs. xs ∷ []) (rows ∙ ap (map (row_of B None)) (filter-same (λ g. (g.rel == rel_of A s.place) && fits_profiles A B f.args g.args) (may_go A B f) B (λ g h. ap (λ b. b && fits_profiles A B f.args g.args) (rel g))))
-  made-rows (Some i) column =
-      let rel : (g : Fact) → (g.rel == rel_of A s.place) ≡ (f.rel == g.rel) = λ g. ap (λ n. g.rel == n) rel-is ∙ eqb-sym g.rel f.rel in
-      let wide : i < length f.args = let l = ap length ns ∙ length-map f.args (number A) in omega arith in
-      let P = may_be_at A B (are_fits A B) s in
-      let keys = map (key_at B (Some i)) P in
-      let one : (w : ℕ) → map (row_at B (Some i)) (picked keys P w) ≡ map (row_of B (Some i)) (filter (λ g. may_go A B f g && has_number B i w g) B) =
-      λ w. one_key (Some i) w (λ g. fits_profiles A B f.args g.args && has_number B i w g) (λ p g e. key-is i p w g wide e) ∙ ap (map (row_of B (Some i))) (filter-same (λ g. (g.rel == rel_of A s.place) && (fits_profiles A B f.args g.args && has_number B i w g)) (λ g. may_go A B f g && has_number B i w g) B (λ g h. ap (λ b. b && (fits_profiles A B f.args g.args && has_number B i w g)) (rel g) ∙ and-apart (f.rel == g.rel) (fits_profiles A B f.args g.args) (has_number B i w g))) in
-      map-map (map (row_at B (Some i))) (picked keys P) (range_with_len 0 (length (values B) + 1)) ∙ ap (λ n. map (λ w. map (row_at B (Some i)) (picked keys P w)) (range_with_len 0 n)) (add-one (length (values B))) ∙ map-range-same (λ w. map (row_at B (Some i)) (picked keys P w)) (λ w. map (row_of B (Some i)) (filter (λ g. may_go A B f g && has_number B i w g) B)) 0 (suc (length (values B))) (λ w a b. one w)
+length-rows_for : (A B : List Fact) (f : Fact) (i : Option ℕ) → length (rows_for A B f i) ≡ key_count B i
+length-rows_for A B f None = refl
+length-rows_for A B f (Some i) =
+    length-map-range_with_len (λ w. map (row_of B (Some i)) (filter (λ g. may_go A B f g && has_number B i w g) B)) 0 (suc (length (values B))) ∙ (omega arith)
 
 table-of : (A B : List Fact) (s : Shape) (f : Fact) → slice_get A s.place ≡ Some f → shape_table A B s ≡ fact_table A B s.column f
 table-of A B s f e = ap (λ o. unwrap_or (option_map (fact_table A B s.column) o) no_table) e
 
--- the table that is made is that of the shape
-pub made-table : (A B : List Fact) (s : Shape) → s.place < length A → Within s.column (numbers_at A s.place) → (stride : ℕ) → stride ≡ length (but_at s.column (numbers_at A s.place)) →
-    (let x : Table = record { stride = stride; rows = map (map (row_at B s.column)) (map (picked (map (key_at B s.column) (may_be_at A B (are_fits A B) s)) (may_be_at A B (are_fits A B) s)) (range_with_len 0 (key_count B s.column))) } in x) ≡ shape_table A B s
-made-table A B s p column stride e =
-    let f = slice_get-there A s.place p in
-    let n : stride ≡ length (but_at s.column (f.0).args) =
-    e ∙ ap (λ xs. length (but_at s.column xs)) (ns A B s f.0 f.1) ∙ length-but_at s.column (map (number A) (f.0).args) (f.0).args (length-map (f.0).args (number A)) in
-    ap₂ (λ n rows. let x : Table = record { stride = n; rows = rows } in x) n (made-rows A B s f.0 f.1 s.column column) ∙ sym (table-of A B s f.0 f.1)
+-- the rows under a key of a table
+pub key-rows-are : (A B : List Fact) (s : Shape) (key : ℕ) → IsShape A s → key < length (shape_table A B s).rows → map (row_at B s.column) (may_be_at A B (are_fits A B) s key) ≡ get_or (shape_table A B s).rows key []
+key-rows-are A B s key shape h =
+    let f = slice_get-there A s.place shape.0 in
+    let t = table-of A B s f.0 f.1 in
+    let wide : length (shape_table A B s).rows ≡ key_count B s.column = ap (λ (x : Table). length x.rows) t ∙ length-rows_for A B f.0 s.column in
+    key-rows A B s f.0 f.1 s.column key (omega arith) ∙ sym (ap (λ (x : Table). get_or x.rows key []) t)
+
+-- a table has a list of rows for each key
+pub key_count-is : (A B : List Fact) (s : Shape) → IsShape A s → length (shape_table A B s).rows ≡ key_count B s.column
+key_count-is A B s shape =
+    let f = slice_get-there A s.place shape.0 in
+    ap (λ (x : Table). length x.rows) (table-of A B s f.0 f.1) ∙ length-rows_for A B f.0 s.column
+
+-- its rows are as long as those of its shape
+pub stride-is : (A B : List Fact) (s : Shape) → IsShape A s → (shape_table A B s).stride ≡ row_length A s
+stride-is A B s h =
+    let t = slice_get-there A s.place h.0 in
+    let wide : length (numbers_at A s.place) ≡ length (t.0).args = ap length (numbers-are A s.place t.0 t.1) ∙ length-map (t.0).args (number A) in
+    ap (λ (x : Table). x.stride) (table-of A B s t.0 t.1) ∙ sym (length-but_at s.column (numbers_at A s.place) (t.0).args wide)
+
+-- the places under a key have rows
+pub shape-rows : (A B : List Fact) (s : Shape) (key : ℕ) → IsShape A s → HaveRows B s.column (shape_table A B s).stride (may_be_at A B (are_fits A B) s key)
+shape-rows A B s key shape =
+    let f = slice_get-there A s.place shape.0 in
+    have_rows A B s f.0 f.1 shape.1 key (shape_table A B s).stride (stride-is A B s shape)
 
 -- values by number have their answers
 pub answered : (A B : List Fact) (p r n m : ℕ) → n ∈ numbers_at A p → m ∈ numbers_at B r → m < length (get_or (are_fits A B) n [])
@@ -280,17 +350,10 @@ pub filter-more : (t : ℕ → Bool) (xs : List ℕ) (i : ℕ) (b : Bool) → i 
 filter-more t xs i b h e =
     ap (filter t) (take_more xs i 0 h) ∙ filter-append t (take i xs) (get_or xs i 0 ∷ []) ∙ ap (λ b. filter t (take i xs) ++ cond b (get_or xs i 0 ∷ []) []) e
 
-pub place-below : (r : Fact → Bool) (B : List Fact) (p : ℕ) → p ∈ places r 0 B → p < length B
-place-below r B p h =
-    let t = ∈-places r 0 p B h in
-    let b = (get_or-found B t.0 t.1 t.1 t.3).0 in
-    omega (arith, t.2)
-
-pub keys-under : (B : List Fact) (i : Option ℕ) (ps : List ℕ) → ((p : ℕ) → p ∈ ps → Within i (numbers_at B p)) → AllUnder (key_count B i) (map (key_at B i) ps)
-keys-under B i [] all = tt
-keys-under B None (p ∷ ps) all = (omega arith, keys-under B None ps (λ q h. all q (inr h)))
-keys-under B (Some i) (p ∷ ps) all =
-    (let u = AllUnder-at (length (values B)) (numbers_at B p) i 0 (numbers-under B p) (all p (inl refl)) in omega arith, keys-under B (Some i) ps (λ q h. all q (inr h)))
+pub under-below : (B : List Fact) (rel : ℕ) (i : Option ℕ) (key p : ℕ) → p ∈ under_key B rel i key → p < length B
+under-below B rel i key p h =
+    let g = under-there B rel i key p h in
+    (get_or-found B p g.0 g.0 g.1).0
 
 pub AreShapes-at : (A : List Fact) (ss : List Shape) (i : ℕ) (d : Shape) → i < length ss → AreShapes A ss → IsShape A (get_or ss i d)
 AreShapes-at A [] i d h all = absurd (omega arith)
@@ -305,7 +368,7 @@ pub gathered-no : (t : ℕ → Bool) (items ps : List ℕ) (i : ℕ) → i < len
 gathered-no t items ps i h e p = p ∙ sym (filter-more t items i false h e ∙ append-nil (filter t (take i items)))
 
 -- what passes is no more than what there is
-length-filter-le : (t : ℕ → Bool) (xs : List ℕ) → length (filter t xs) ≤ length xs
+length-filter-le : {X : Type 0} (t : X → Bool) (xs : List X) → length (filter t xs) ≤ length xs
 length-filter-le t [] = omega arith
 length-filter-le t (x ∷ xs) = elim (cases_Bool (t x)) [ inl h ↦ rw h (omega (arith, length-filter-le t xs)) | inr h ↦ rw h (omega (arith, length-filter-le t xs)) ]
 
@@ -313,139 +376,112 @@ pub length-places-le : (r : Fact → Bool) (n : ℕ) (B : List Fact) → length 
 length-places-le r n [] = omega arith
 length-places-le r n (g ∷ B) = elim (cases_Bool (r g)) [ inl h ↦ rw h (omega (arith, length-places-le r (suc n) B)) | inr h ↦ rw h (omega (arith, length-places-le r (suc n) B)) ]
 
--- as far as a loop over places has come there is room for one more
-pub gathered-room : (t : ℕ → Bool) (r : Fact → Bool) (B : List Fact) (items ps : List ℕ) (i : ℕ) → items ≡ places r 0 B → i < length items → ps ≡ filter t (take i items) → length ps < length B
-gathered-room t r B items ps i e h p =
-    omega (arith, ap length e, length-places-le r 0 B, ap length p, length-filter-le t (take i items), length-take i items)
+-- under a key are no more places than there are facts
+length-under_key : (B : List Fact) (rel : ℕ) (i : Option ℕ) (key : ℕ) → length (under_key B rel i key) ≤ length B
+length-under_key B rel None key = length-places-le (λ g. g.rel == rel) 0 B
+length-under_key B rel (Some i) key = by (slice_get (values B) key)
+  where
+    by : (o : Option Val) → length (unwrap_or (option_map (λ v. places (has_at rel i v) 0 B) o) []) ≤ length B
+    by None = omega arith
+    by (Some v) = length-places-le (has_at rel i v) 0 B
 
-pub length-may_be_at : (A B : List Fact) (s : Shape) → length (may_be_at A B (are_fits A B) s) ≤ length B
-length-may_be_at A B s =
-    let r : Fact → Bool = λ g. g.rel == rel_of A s.place in
-    omega (arith, length-filter-le (λ p. fits_row (are_fits A B) (numbers_at A s.place) (numbers_at B p)) (places r 0 B), length-places-le r 0 B)
+-- as far as a loop over places has come there is room for one more
+pub gathered-room : (t : ℕ → Bool) (B : List Fact) (rel : ℕ) (column : Option ℕ) (key : ℕ) (items ps : List ℕ) (i : ℕ) → items ≡ under_key B rel column key → i < length items → ps ≡ filter t (take i items) → length ps < length B
+gathered-room t B rel column key items ps i e h p =
+    omega (arith, ap length e, length-under_key B rel column key, ap length p, length-filter-le t (take i items), length-take i items)
 
 pub key_count-le : (B : List Fact) (i : Option ℕ) → key_count B i ≤ length (values B) + 1
 key_count-le B None = omega arith
 key_count-le B (Some i) = omega arith
 
--- there are as many in all groups as there are keys below their number
-picked-count : (ks xs : List ℕ) (n : ℕ) → length ks ≡ length xs → sum_by length (map (picked ks xs) (range_with_len 0 n)) ≡ under ks n
-picked-count ks xs zero e = sym (under-zero ks)
-picked-count ks xs (suc n) e =
-    let more : sum_by length (map (picked ks xs) (range_with_len 0 (n + 1))) ≡ under ks (n + 1) =
-    sum_by-map-range_with_len_more length (picked ks xs) 0 n n (omega arith) ∙ (omega (arith, picked-count ks xs n e, length-picked ks xs n e, under-more ks n)) in
-    rw add-one at more
+-- ---- a fact stands under one key at most
 
--- a table for a shape, as it is made
-module _ (A B : List Fact) (s : Shape) (shape : IsShape A s) (gs : List (List ℕ)) (keys P : List ℕ) (stride count : ℕ) (p : P ≡ may_be_at A B (are_fits A B) s) (k : keys ≡ map (key_at B s.column) P) (n : count ≡ key_count B s.column) where
-  its_fact : (f : Fact) × (slice_get A s.place ≡ Some f)
-  its_fact = slice_get-there A s.place shape.0
+one : Bool → ℕ
+one b = cond b 1 0
 
-  pub keys-there : AllUnder count keys
-  keys-there =
-      rw (n, k, p) (keys-under B s.column (may_be_at A B (are_fits A B) s) (λ r h.
-      let g = gone-to A B s its_fact.0 its_fact.1 r h in
-      let l : length (numbers_at A s.place) ≡ length (numbers_at B r) =
-      ap length (numbers-are A s.place its_fact.0 its_fact.1) ∙ length-map (its_fact.0).args (number A) ∙ g.2 ∙ sym (ap length (numbers-are B r g.0 g.1) ∙ length-map (g.0).args (number B)) in
-      Within-same s.column (numbers_at A s.place) (numbers_at B r) l shape.1))
+length-filter-cons : {X : Type 0} (t : X → Bool) (x : X) (xs : List X) → length (filter t (x ∷ xs)) ≡ one (t x) + length (filter t xs)
+unfolding one
+length-filter-cons t x xs = elim (cases_Bool (t x)) [ inl h ↦ rw h (omega arith) | inr h ↦ rw h (omega arith) ]
 
-  module _ (g : gs ≡ map (picked keys P) (range_with_len 0 count)) (e : stride ≡ length (but_at s.column (numbers_at A s.place))) where
-    groups-are : gs ≡ map (picked (map (key_at B s.column) (may_be_at A B (are_fits A B) s)) (may_be_at A B (are_fits A B) s)) (range_with_len 0 (key_count B s.column))
-    groups-are = g ∙ rw (k, p, n) refl
+sum_by-none : (ws : List ℕ) → sum_by (λ w. one false) ws ≡ 0
+unfolding one
+sum_by-none [] = refl
+sum_by-none (w ∷ ws) = let z : one false ≡ 0 = refl in omega (arith, sum_by-cons (λ w. one false) w ws, sum_by-none ws)
 
-    pub rows-there : HaveRows B s.column stride gs
-    rows-there =
-        rw groups-are (have_rows A B s its_fact.0 its_fact.1 shape.1 (map (key_at B s.column) (may_be_at A B (are_fits A B) s)) (key_count B s.column) stride e)
+-- of the numbers from a on at most one is m
+none-below : (m a n : ℕ) → m < a → sum_by (λ w. one (eqb m w)) (range_with_len a n) ≡ 0
+unfolding one
+none-below m a zero h = refl
+none-below m a (suc n) h =
+    let apart : eqb m a ≡ false = eqb-apart m a (λ e. absurd (omega arith)) in
+    sum_by-cons (λ w. one (eqb m w)) a (range_with_len (a + 1) n) ∙ ap₂ (λ b k. one b + k) apart (none-below m (a + 1) n (omega arith))
 
-    pub its_table : (let x : Table = record { stride = stride; rows = map (map (row_at B s.column)) gs } in x) ≡ shape_table A B s
-    its_table = rw groups-are (made-table A B s shape.0 shape.1 stride e)
+one-is : (m a n : ℕ) → sum_by (λ w. one (eqb m w)) (range_with_len a n) ≤ 1
+unfolding one
+one-is m a zero = omega arith
+one-is m a (suc n) =
+    let c = sum_by-cons (λ w. one (eqb m w)) a (range_with_len (a + 1) n) in
+    elim (cases_Bool (eqb m a)) [
+      | inl t ↦ (let e : m ≡ a = (Decides-eqb m a).0 t in let o : one (eqb m a) ≡ 1 = ap one t in omega (arith, c, o, none-below m (a + 1) n (omega arith)))
+      | inr t ↦ (let o : one (eqb m a) ≡ 0 = ap one t in omega (arith, c, o, one-is m (a + 1) n))
+    ]
 
-    pub its_keys : length gs ≡ key_count B s.column
-    its_keys = ap length g ∙ length-map-range_with_len (picked keys P) 0 count ∙ n
+one-le : (a b : Bool) → one (a && b) ≤ one b
+unfolding one
+one-le true b = omega arith
+one-le false true = omega arith
+one-le false false = omega arith
 
-    -- there is room for its rows
-    pub its_cells : length (flat_map (flat_map (row_at B s.column)) gs) ≤ cells_for A B s
-    its_cells =
-        let rows = length-all_rows (row_at B s.column) stride gs (λ ps m q h. (rows-there ps m q h).1) in
-        let paired : length keys ≡ length P = ap length k ∙ length-map P (key_at B s.column) in
-        let few : sum_by length gs ≤ length B =
-        omega (arith, ap (sum_by length) g, picked-count keys P count paired, under-le keys count, paired, ap length p, length-may_be_at A B s) in
-        let less : sum_by length gs * stride ≤ length B * stride = mul-le-mul_right stride few in
-        let same : length B * stride ≡ cells_for A B s = ap (λ m. length B * m) e in
+-- a fact has at most one of the numbers from a on
+one-number : (K : List Fact) (i : ℕ) (p : Fact → Bool) (g : Fact) (a n : ℕ) → sum_by (λ w. one (p g && has_number K i w g)) (range_with_len a n) ≤ 1
+one-number K i p g a n = by (slice_get g.args i) refl
+  where
+    by : (o : Option Val) → slice_get g.args i ≡ o → sum_by (λ w. one (p g && unwrap_or (option_map (λ v. number K v == w) o) false)) (range_with_len a n) ≤ 1
+    by None e =
+        let less = sum_by-le-sum_by (λ w. one (p g && false)) (λ w. one false) (range_with_len a n) (λ w. one-le (p g) false) in
+        let none = sum_by-none (range_with_len a n) in
         omega arith
+    by (Some u) e =
+        let less = sum_by-le-sum_by (λ w. one (p g && (number K u == w))) (λ w. one (eqb (number K u) w)) (range_with_len a n) (λ w. one-le (p g) (eqb (number K u) w)) in
+        omega (arith, one-is (number K u) a n)
 
--- what stands past the last shape
-abbrev pub no_shape : Shape
-no_shape = record { place = 0; column = None }
+-- all rows are no more than the facts
+module _ (A B : List Fact) (f : Fact) (i : ℕ) where
+  row_count : List Fact → ℕ → ℕ
+  row_count gs w = length (filter (λ g. may_go A B f g && has_number B i w g) gs)
 
-get_or-any : {X : Type 0} (xs : List X) (i : ℕ) (d e : X) → i < length xs → get_or xs i d ≡ get_or xs i e
-get_or-any [] i d e h = absurd (omega arith)
-get_or-any (x ∷ xs) zero d e h = refl
-get_or-any (x ∷ xs) (suc i) d e h = get_or-any xs i d e (omega arith)
+  counted : (ws : List ℕ) → sum_by length (map (λ w. map (row_of B (Some i)) (filter (λ g. may_go A B f g && has_number B i w g) B)) ws) ≡ sum_by (row_count B) ws
+  unfolding row_count
+  counted [] = refl
+  counted (w ∷ ws) =
+      let F : ℕ → List (List ℕ) = λ w. map (row_of B (Some i)) (filter (λ g. may_go A B f g && has_number B i w g) B) in
+      sum_by-cons length (F w) (map F ws) ∙ ap₂ (λ m n. m + n) (length-map (filter (λ g. may_go A B f g && has_number B i w g) B) (row_of B (Some i))) (counted ws) ∙ sym (sum_by-cons (row_count B) w ws)
 
--- the table that is laid for a place is that of its shape
-module _ (A B : List Fact) (fits : Fits) (ss : List Shape) (laid : LaidView) (bench : Bench) (so : IsStocked A B fits ss laid bench) where
-  laid_le : length laid.tables ≤ length ss
-  laid_le = omega (arith, ap length so.tables, length-map (take (length laid.tables) ss) (shape_table A B), length-take (length laid.tables) ss)
+  count-none : (ws : List ℕ) → sum_by (row_count []) ws ≡ 0
+  unfolding row_count
+  count-none [] = refl
+  count-none (w ∷ ws) = let z : row_count [] w ≡ 0 = refl in omega (arith, sum_by-cons (row_count []) w ws, count-none ws)
 
-  pub laid-at : (t : ℕ) (d : Table) → t < length laid.tables → get_or laid.tables t d ≡ get_or (map (shape_table A B) ss) t d
-  laid-at t d h =
-      ap (λ xs. get_or xs t d) (so.tables ∙ sym (take-map (shape_table A B) (length laid.tables) ss)) ∙ get_or-take (length laid.tables) (map (shape_table A B) ss) t d h
+  count-cons : (g : Fact) (gs : List Fact) (ws : List ℕ) → sum_by (row_count (g ∷ gs)) ws ≡ sum_by (λ w. one (may_go A B f g && has_number B i w g)) ws + sum_by (row_count gs) ws
+  unfolding row_count
+  count-cons g gs [] = refl
+  count-cons g gs (w ∷ ws) =
+      let t : ℕ → ℕ = λ w. one (may_go A B f g && has_number B i w g) in
+      let here : row_count (g ∷ gs) w ≡ t w + row_count gs w = length-filter-cons (λ g. may_go A B f g && has_number B i w g) g gs in
+      omega (arith, here, count-cons g gs ws, sum_by-cons (row_count (g ∷ gs)) w ws, sum_by-cons t w ws, sum_by-cons (row_count gs) w ws)
 
-  module _ (s : Shape) (h : length laid.tables < length ss) (at : s ≡ get_or ss (length laid.tables) s) where
-    here : s ≡ get_or ss (length laid.tables) no_shape
-    here = at ∙ get_or-any ss (length laid.tables) s no_shape h
+  count-le : (gs : List Fact) (a n : ℕ) → sum_by (row_count gs) (range_with_len a n) ≤ length gs
+  count-le [] a n = omega (arith, count-none (range_with_len a n))
+  count-le (g ∷ gs) a n =
+      omega (arith, count-cons g gs (range_with_len a n), one-number B i (may_go A B f) g a n, count-le gs a n)
 
-    cells_left : cells_needed A B (drop (length laid.tables) ss) ≡ cells_for A B s + cells_needed A B (drop (length laid.tables + 1) ss)
-    cells_left = sum_by-drop_more (cells_for A B) ss (length laid.tables) no_shape h ∙ ap (λ r. cells_for A B r + cells_needed A B (drop (length laid.tables + 1) ss)) (sym here)
+rows_for-le : (A B : List Fact) (f : Fact) (i : Option ℕ) → sum_by length (rows_for A B f i) ≤ length B
+rows_for-le A B f None =
+    omega (arith, sum_by-cons length (map (row_of B None) (filter (may_go A B f) B)) [], length-map (filter (may_go A B f) B) (row_of B None), length-filter-le (may_go A B f) B)
+rows_for-le A B f (Some i) =
+    omega (arith, counted A B f i (range_with_len 0 (suc (length (values B)))), count-le A B f i B 0 (suc (length (values B))))
 
-    ranges_left : ranges_needed B (drop (length laid.tables) ss) ≡ key_count B s.column + ranges_needed B (drop (length laid.tables + 1) ss)
-    ranges_left = sum_by-drop_more (λ r. key_count B r.column) ss (length laid.tables) no_shape h ∙ ap (λ (r : Shape). key_count B r.column + ranges_needed B (drop (length laid.tables + 1) ss)) (sym here)
-
-    -- it can be laid
-    pub is_shape : IsShape A s
-    is_shape = subst (IsShape A) (sym here) (AreShapes-at A ss (length laid.tables) no_shape h so.shapes)
-
-    pub room-cells : length laid.cells + cells_for A B s ≤ laid.cells_room
-    room-cells = omega (arith, so.cells_room, cells_left)
-
-    pub room-ranges : laid.ranges + key_count B s.column ≤ laid.ranges_room
-    room-ranges = omega (arith, so.ranges_room, ranges_left)
-
-    pub room-tables : length laid.tables < laid.tables_room
-    room-tables = omega (arith, so.tables_room)
-
-    -- and then it is laid
-    pub stocked-more : (new : LaidView) (after : Bench) → new.tables ≡ laid.tables ++ shape_table A B s ∷ [] → length new.cells ≤ length laid.cells + cells_for A B s → new.ranges ≡ laid.ranges + key_count B s.column →
-        laid.cells_room ≤ new.cells_room → laid.ranges_room ≤ new.ranges_room → laid.tables_room ≤ new.tables_room → HasRoom B after → IsStocked A B fits ss new after
-    stocked-more new after t c r cr rr tr room =
-        let long : length new.tables ≡ length laid.tables + 1 = ap length t ∙ length_push laid.tables (shape_table A B s) in
-        let taken : take (length laid.tables + 1) ss ≡ take (length laid.tables) ss ++ s ∷ [] = take_more ss (length laid.tables) no_shape h ∙ ap (λ x. take (length laid.tables) ss ++ x ∷ []) (sym here) in
-        record {
-          answers = so.answers;
-          shapes = so.shapes;
-          tables = t ∙ ap (λ xs. xs ++ shape_table A B s ∷ []) so.tables ∙ sym (map-append (shape_table A B) (take (length laid.tables) ss) (s ∷ [])) ∙ ap (map (shape_table A B)) (sym taken) ∙ ap (λ n. map (shape_table A B) (take n ss)) (sym long);
-          cells_room = rw long (omega (arith, so.cells_room, cells_left));
-          ranges_room = rw long (omega (arith, so.ranges_room, ranges_left));
-          tables_room = omega (arith, so.tables_room);
-          bench_room = room;
-        }
-
--- what is kept twice is kept
-pub kept-more : (xs ys zs : List ℕ) → take (length xs) ys ≡ xs → take (length ys) zs ≡ ys → take (length xs) zs ≡ xs
-kept-more xs ys zs a b =
-    let le : length xs ≤ length ys = omega (arith, ap length a, length-take (length xs) ys) in
-    sym (take-take (length xs) (length ys) zs le) ∙ ap (take (length xs)) b ∙ a
-
--- a stock of which nothing is laid
-pub nothing-laid : (A B : List Fact) (fits : Fits) (ss : List Shape) (laid : LaidView) (bench : Bench) (cells ranges tables : ℕ) → AreFits A B fits → AreShapes A ss →
-    laid ≡ record { cells = []; tables = []; ranges = 0; cells_room = cells; ranges_room = ranges; tables_room = tables } →
-    cells_needed A B ss ≤ cells → ranges_needed B ss ≤ ranges → length ss ≤ tables → HasRoom B bench → IsStocked A B fits ss laid bench
-nothing-laid A B fits ss laid bench cells ranges tables f s e c r t b = rw e (record {
-  answers = f;
-  shapes = s;
-  tables = refl;
-  cells_room = omega (arith, c);
-  ranges_room = omega (arith, r);
-  tables_room = t;
-  bench_room = b;
-})
+pub table-rows-le : (A B : List Fact) (s : Shape) → IsShape A s → sum_by length (shape_table A B s).rows ≤ length B
+table-rows-le A B s shape =
+    let f = slice_get-there A s.place shape.0 in
+    omega (arith, ap (λ (x : Table). sum_by length x.rows) (table-of A B s f.0 f.1), rows_for-le A B f.0 s.column)

@@ -1,5 +1,5 @@
--- Binding a row column by column, in place (this project's own). Each slot has one cell that keeps the number that it is
--- bound to; a slot that is not bound may keep any number.
+-- Binding a row column by column, in place (this project's own). Each slot has one cell that keeps the number that it
+-- is bound to; a slot that is not bound may keep any number.
 --   is_among s seen               == whether s is one of these slots
 --   seen_after seen ss            == these slots and those before them
 --   bound_slots ss ls             == the slots that these levels bind and those before them
@@ -12,7 +12,8 @@
 --   Tried m cs row images done    == a row was bound after m, or cannot be
 --   row_at cells first n k        == the row k of those that stand from a cell on
 --   Scanned m cs row from to k images    == of these rows k is the first that can be bound after m, and it was
-use Rattle.std.specs.Prelude.{◌≡◌, ℕ, ◌+◌, ◌*◌, ◌<◌, ◌≤◌, ◌==◌, Bool, true, false, not, cond, List, [], ◌∷◌, map, length, take, drop, get_or, Some, None, is_some}
+use Rattle.std.specs.Prelude.{◌≡◌, ℕ, ◌+◌, ◌*◌, ◌<◌, ◌≤◌, ◌==◌, Bool, true, false, not, cond, List, [], ◌∷◌, map}
+use Rattle.std.specs.Prelude.{length, take, drop, get_or, Some, None, is_some}
 use Rattle.eir_hom.specs.declared.columns.Column.{Column}
 use Rattle.eir_hom.specs.Matching.{Level, Bindings, bound_to, bind_row}
 

@@ -4,9 +4,10 @@
 --   first_set known p ns      == the first column, counted on from p, whose number is marked
 --   marked known ns           == these flags with these numbers marked
 --   shapes_by A known ps      == the shapes of the facts at these places, in this order
---   drafts_of n ss            == the drafts of levels with these shapes, each with a table of its own, counted on from n
+--   drafts_of n ss            == the drafts of levels with these shapes, each with a table of its own, from n on
 --   AreDrafts A B tables ds ss == each draft has one of these shapes, and names a table of its shape
-use Rattle.std.specs.Prelude.{◌≡◌, ℕ, suc, ◌<◌, ◌==◌, Bool, false, true, cond, List, [], ◌∷◌, length, Option, Some, None, slice_index, slice_index_or, slice_set}
+use Rattle.std.specs.Prelude.{◌≡◌, ℕ, suc, ◌<◌, ◌==◌, Bool, false, true, cond, List, [], ◌∷◌, length, Option, Some}
+use Rattle.std.specs.Prelude.{None, slice_index, slice_index_or, slice_set}
 use Rattle.eir_term.specs.declared.val.Val.{Val}
 use Rattle.eir_term.specs.declared.fact.Fact.{Fact}
 use Rattle.eir_term.specs.Values.{is_fixed}
@@ -77,7 +78,8 @@ AreDrafts A B tables [] [] = Unit {0}
 AreDrafts A B tables [] (s ∷ ss) = ⊥
 AreDrafts A B tables (d ∷ ds) [] = ⊥
 AreDrafts A B tables (d ∷ ds) (s ∷ ss) =
-    (d.shape ≡ s) × (d.table < length tables) × (slice_index_or tables d.table no_table ≡ shape_table A B s) × AreDrafts A B tables ds ss
+    (d.shape ≡ s) × (d.table < length tables) × (slice_index_or tables d.table no_table ≡ shape_table A B s)
+    × AreDrafts A B tables ds ss
 
 -- the slots of the values with an image and its number, counted on from n
 abbrev pub bindings_from : ℕ → List (Option ℕ) → Bindings
@@ -102,4 +104,7 @@ draft_level A tables d = record {
 abbrev pub AreReadyDrafts : List Fact → List Table → List ℕ → List Draft → Type 0
 AreReadyDrafts A tables seen [] = Unit {0}
 AreReadyDrafts A tables seen (d ∷ ds) =
-    IsShape A d.shape × (d.table < length tables) × ((slice_index_or tables d.table no_table).stride ≡ length (row_at A d.shape.column d.shape.place)) × (is_among (draft_level A tables d).key seen ≡ true) × AreReadyDrafts A tables (seen_after seen (row_at A d.shape.column d.shape.place)) ds
+    IsShape A d.shape × (d.table < length tables)
+    × ((slice_index_or tables d.table no_table).stride ≡ length (row_at A d.shape.column d.shape.place))
+    × (is_among (draft_level A tables d).key seen ≡ true)
+    × AreReadyDrafts A tables (seen_after seen (row_at A d.shape.column d.shape.place)) ds

@@ -5,7 +5,8 @@
 --   seated cs known seats    == the seats with their known columns counted
 --   free_places seats        == the places of the facts that are not listed
 --   IsLightestFree seats p   == p is the first place of the least weight of a fact that is not listed
-use Rattle.std.specs.Prelude.{◌≡◌, ℕ, suc, ◌+◌, ◌<◌, ◌≤◌, Bool, true, false, not, cond, List, [], ◌∷◌, length, slice_index_or}
+use Rattle.std.specs.Prelude.{◌≡◌, ℕ, suc, ◌+◌, ◌<◌, ◌≤◌, Bool, true, false, not, cond, List, [], ◌∷◌, length}
+use Rattle.std.specs.Prelude.{slice_index_or}
 use Rattle.eir_term.specs.declared.val.Val.{Val}
 use Rattle.eir_term.specs.declared.fact.Fact.{Fact}
 use Rattle.eir_term.specs.Lists.{places}
@@ -16,7 +17,8 @@ use Rattle.eir_hom.specs.Occurring.{occurring, known_columns}
 
 -- the seat at a place
 abbrev pub seat_at : List Seat → ℕ → Seat
-seat_at seats p = slice_index_or seats p (record { view = record { rel = 0; arity = 0; bound = 0; count = 0 }; is_listed = true })
+seat_at seats p =
+    slice_index_or seats p (record { view = record { rel = 0; arity = 0; bound = 0; count = 0 }; is_listed = true })
 
 -- the weight of a fact that is not listed; of a listed one the greatest number
 abbrev pub seat_weight : Seat → ℕ
@@ -28,7 +30,10 @@ AreViews seats = (p : ℕ) → p < length seats → IsView (seat_at seats p).vie
 
 -- the seat with so many known columns
 abbrev pub with_bound : ℕ → Seat → Seat
-with_bound k s = record { view = record { rel = s.view.rel; arity = s.view.arity; bound = k; count = s.view.count }; is_listed = s.is_listed }
+with_bound k s = record {
+  view = record { rel = s.view.rel; arity = s.view.arity; bound = k; count = s.view.count };
+  is_listed = s.is_listed;
+}
 
 -- the seat of a fact with k known columns more
 abbrev pub raised_by : ℕ → Seat → Seat
@@ -68,8 +73,10 @@ free_places seats = places is_free 0 seats
 pub record IsLightestFree (seats : List Seat) (p : ℕ) : Type 0 where
   pub within : p < length seats
   pub free : is_free (seat_at seats p) ≡ true
-  pub least : (q : ℕ) → q < length seats → is_free (seat_at seats q) ≡ true → view_weight (seat_at seats p).view ≤ view_weight (seat_at seats q).view
-  pub first : (q : ℕ) → q < p → is_free (seat_at seats q) ≡ true → view_weight (seat_at seats p).view < view_weight (seat_at seats q).view
+  pub least : (q : ℕ) → q < length seats → is_free (seat_at seats q) ≡ true
+      → view_weight (seat_at seats p).view ≤ view_weight (seat_at seats q).view
+  pub first : (q : ℕ) → q < p → is_free (seat_at seats q) ≡ true
+      → view_weight (seat_at seats p).view < view_weight (seat_at seats q).view
 
 -- the seat of a fact that is not listed, before any is
 abbrev pub first_seat : List Fact → List (Val × Val) → Fact → Seat

@@ -9,7 +9,8 @@
 --   bindings_of A B start  == the slots of given values with the numbers of their images, and a slot of no value, to 0
 --   hom_of A B m           == the map that the bindings say, on the values of A
 --   matched_hom A B s cs   == the map at the rows that are chosen
-use Rattle.std.specs.Prelude.{ℕ, suc, Bool, false, ◌==◌, ◌&&◌, cond, List, [], ◌∷◌, ◌++◌, map, filter, length, take, drop, get_or, Option, Some, None, option_and_then, option_map, unwrap_or, slice_get}
+use Rattle.std.specs.Prelude.{ℕ, suc, Bool, false, ◌==◌, ◌&&◌, cond, List, [], ◌∷◌, ◌++◌, map, filter, length, take}
+use Rattle.std.specs.Prelude.{drop, get_or, Option, Some, None, option_and_then, option_map, unwrap_or, slice_get}
 use Rattle.std.specs.List.{range_with_len}
 use Rattle.eir_term.specs.declared.val.Val.{Val}
 use Rattle.eir_term.specs.declared.fact.Fact.{Fact}
@@ -50,7 +51,9 @@ row_of B i g = but_at i (map (number B) g.args)
 -- the rows of the facts that f may go to: one list where no column is named, else one for each number at the column
 abbrev pub rows_for : List Fact → List Fact → Fact → Option ℕ → List (List (List ℕ))
 rows_for A B f None = map (row_of B None) (filter (may_go A B f) B) ∷ []
-rows_for A B f (Some i) = map (λ w. map (row_of B (Some i)) (filter (λ g. may_go A B f g && has_number B i w g) B)) (range_with_len 0 (suc (length (values B))))
+rows_for A B f (Some i) =
+    map (λ w. map (row_of B (Some i)) (filter (λ g. may_go A B f g && has_number B i w g) B))
+    (range_with_len 0 (suc (length (values B))))
 
 -- the slot of the value at the column; the slot of no value where no column is named
 abbrev pub slot_of : List Fact → Fact → Option ℕ → ℕ
@@ -83,7 +86,8 @@ given_values A start = filter (is_known start []) (values A)
 
 -- the slot of no value bound to 0, and the slots of given values with the numbers of their images
 abbrev pub bindings_of : List Fact → List Fact → List (Val × Val) → Bindings
-bindings_of A B start = (length (values A), 0) ∷ map (λ v. (number A v, number B (image start v))) (given_values A start)
+bindings_of A B start =
+    (length (values A), 0) ∷ map (λ v. (number A v, number B (image start v))) (given_values A start)
 
 -- the value of B that v goes to
 abbrev pub value_of : List Fact → List Fact → Bindings → Val → Val

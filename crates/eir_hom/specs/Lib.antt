@@ -5,7 +5,6 @@ pub mod Occurring
 pub mod Counts
 pub mod Fronts
 pub mod Tables
-pub mod Groups
 pub mod Layouts
 pub mod Fits
 pub mod Matching

@@ -4,12 +4,14 @@
 --   tries_to_come s             == the tries that it has still to make
 --   homs_to_come A B start s    == the homomorphisms at these lists
 --   found_hom is_found hom      == the map that was found last, if the last turn found one
---   IsEntry A p g               == g is the entry of the pair p: its members, and the number of the first among A's values
+--   IsEntry A p g               == g is the entry of the pair p: its members, and the number of the first among A's
+--                                  values
 --   AreEntries A ps gs          == these are the entries of the first pairs, one by one
 --   IsSearch A B start s        == the search goes through the levels and begins with the bindings of A, B and start
 --   AreMatches A B start css    == each list is as long as there are levels, and its rows match
 --   IsListing                   == all that is true of a listing in memory
-use Rattle.std.specs.Prelude.{◌≡◌, ◌↔◌, Bool, cond, ℕ, List, [], ◌∷◌, map, length, Option, Some, None, IsSome, slice_get}
+use Rattle.std.specs.Prelude.{◌≡◌, ◌↔◌, Bool, cond, ℕ, List, [], ◌∷◌, map, length, Option, Some, None, IsSome}
+use Rattle.std.specs.Prelude.{slice_get}
 use Rattle.eir_term.specs.declared.val.Val.{Val}
 use Rattle.eir_term.specs.declared.fact.Fact.{Fact}
 use Rattle.eir_term.specs.Lists.{◌∈◌, IsDistinct}
@@ -65,7 +67,8 @@ AreMatches A B start css = (cs : List ℕ) → cs ∈ css →
 
 -- what is true of a listing in memory: of its source, target and start, the entries of the start, the map that it
 -- writes, and its search
-pub record IsListing (A B : List Fact) (start : List (Val × Val)) (given : List Given) (hom : List (Val × Val)) (search : Option (Standing Match)) : Type 0 where
+pub record IsListing (A B : List Fact) (start : List (Val × Val)) (given : List Given) (hom : List (Val × Val))
+    (search : Option (Standing Match)) : Type 0 where
   pub distinct : IsDistinct B
   pub fixed : KeepsFixed start
   pub names : IsDistinct (domain_of start)

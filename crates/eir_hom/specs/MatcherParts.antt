@@ -10,7 +10,8 @@
 --   Stands ls start placed images  == the bindings after what is placed, and that their numbers are kept
 --   HasLevelRoom ts ..          == there is room for a level for each table
 --   IsMatcher ts cs ls given images flags ranges placed depth  == all this of the parts of a matcher
-use Rattle.std.specs.Prelude.{◌≡◌, ℕ, ◌+◌, ◌*◌, ◌<◌, ◌≤◌, Bool, true, false, List, [], ◌∷◌, map, length, take, drop, get_or, slice_get, Some}
+use Rattle.std.specs.Prelude.{◌≡◌, ℕ, ◌+◌, ◌*◌, ◌<◌, ◌≤◌, Bool, true, false, List, [], ◌∷◌, map, length, take, drop}
+use Rattle.std.specs.Prelude.{get_or, slice_get, Some}
 use Rattle.std.specs.List.{sum_by}
 use Rattle.eir_hom.specs.declared.columns.Column.{Column}
 use Rattle.eir_hom.specs.declared.tables.Range.{Range}
@@ -48,7 +49,8 @@ pub record IsCompiled (ts : TablesView) (cs : List Column) (n : ℕ) (seen : Lis
 -- this of each level
 abbrev pub AreCompiled : TablesView → List Column → ℕ → List ℕ → List CompiledLevel → Type 0
 AreCompiled ts cs n seen [] = Unit {0}
-AreCompiled ts cs n seen (l ∷ ls) = IsCompiled ts cs n seen l × AreCompiled ts cs n (seen_after seen (slots_of (columns_at cs l))) ls
+AreCompiled ts cs n seen (l ∷ ls) = IsCompiled ts cs n seen l
+    × AreCompiled ts cs n (seen_after seen (slots_of (columns_at cs l))) ls
 
 -- the range has the rows of the level's table for the number w
 pub record IsRangeFor (ts : TablesView) (l : CompiledLevel) (w : ℕ) (r : Range) : Type 0 where
@@ -67,16 +69,18 @@ pub record Stands (ls : List Level) (start : Bindings) (placed images : List ℕ
   pub holds : Holds images reached
 
 -- there is room for a level for each table: for the level and its columns, its range and its choice
-pub record HasLevelRoom (tables : List Table) (levels columns levels_capacity columns_capacity ranges placed : ℕ) : Type 0 where
+pub record HasLevelRoom (tables : List Table) (levels columns levels_capacity columns_capacity ranges placed : ℕ)
+    : Type 0 where
   pub levels_room : length tables ≤ levels_capacity
   pub columns_room : sum_by (λ t. t.stride) tables ≤ columns_capacity
   pub ranges_room : length tables ≤ ranges
   pub placed_room : length tables ≤ placed
   pub filled : columns ≡ sum_by (λ t. t.stride) (take levels tables)
 
--- the parts of a matcher: there is room, each level is compiled, the flags say what is bound, the images are those after
--- what is placed, and the ranges up to the next level have its rows
-pub record IsMatcher (ts : TablesView) (cs : List Column) (ls : List CompiledLevel) (given images : List ℕ) (flags : List Bool) (ranges : List Range) (placed : List ℕ) (depth : ℕ) : Type 0 where
+-- the parts of a matcher: there is room, each level is compiled, the flags say what is bound, the images are those
+-- after what is placed, and the ranges up to the next level have its rows
+pub record IsMatcher (ts : TablesView) (cs : List Column) (ls : List CompiledLevel) (given images : List ℕ)
+    (flags : List Bool) (ranges : List Range) (placed : List ℕ) (depth : ℕ) : Type 0 where
   pub flags_room : length flags ≡ length images
   pub ranges_room : length ls ≤ length ranges
   pub placed_room : length ls ≤ length placed
@@ -85,5 +89,6 @@ pub record IsMatcher (ts : TablesView) (cs : List Column) (ls : List CompiledLev
   pub compiled : AreCompiled ts cs (length images) given ls
   pub bound : (s : ℕ) → get_or flags s false ≡ is_among s (bound_slots given (levels_in ts cs ls))
   pub stands : Stands (levels_in ts cs ls) (start_in given images) (take depth placed) images
-  pub ranges_are : (k : ℕ) (l : CompiledLevel) (r : Range) (m : Bindings) → k ≤ depth → slice_get ls k ≡ Some l → slice_get ranges k ≡ Some r →
+  pub ranges_are : (k : ℕ) (l : CompiledLevel) (r : Range) (m : Bindings) → k ≤ depth
+      → slice_get ls k ≡ Some l → slice_get ranges k ≡ Some r →
       matched (levels_in ts cs ls) (start_in given images) (take k placed) ≡ Some m → IsRange ts cs l r m

@@ -1,6 +1,7 @@
--- Matching rows of numbers level by level: the search for homomorphisms in numbers alone (this project's own). A slot is
--- the number of a value of the source; what is bound to it is the number of its image in the target.
---   Level                == the slot whose number picks the rows, the slots that a row binds, and the rows by that number
+-- Matching rows of numbers level by level: the search for homomorphisms in numbers alone (this project's own). A slot
+-- is the number of a value of the source; what is bound to it is the number of its image in the target.
+--   Level                == the slot whose number picks the rows, the slots that a row binds, and the rows by that
+--                           number
 --   Bindings             == slots with the numbers that they are bound to
 --   bound_to m s         == what s is bound to
 --   bind_slot m s w      == m that also binds s to w, where it may
@@ -10,7 +11,8 @@
 --   match_space ls m     == all this as a space of a search
 --   with_number m s w    == m with w for the number of s, where it binds s
 --   Match                == what a contract sees of a matcher
-use Rattle.std.specs.Prelude.{ℕ, ◌==◌, cond, List, [], ◌∷◌, ◌++◌, map, length, get_or, Option, Some, None, is_some, option_and_then, unwrap_or, slice_get}
+use Rattle.std.specs.Prelude.{ℕ, ◌==◌, cond, List, [], ◌∷◌, ◌++◌, map, length, get_or, Option, Some, None, is_some}
+use Rattle.std.specs.Prelude.{option_and_then, unwrap_or, slice_get}
 use Rattle.eir_search.specs.Spaces.{Space}
 use Rattle.eir_hom.specs.Tables.{Table}
 use Rattle.eir_hom.specs.declared.course.Shape.{Shape}
@@ -75,8 +77,8 @@ match_space ls m = record {
 abbrev pub with_number : Bindings → ℕ → ℕ → Bindings
 with_number m s w = map (λ p. (p.0, cond (p.0 == s) w p.1)) m
 
--- what a contract sees of a matcher: how many slots it has, its tables and their shapes, its levels, the bindings at the start, and the
--- choices that are placed
+-- what a contract sees of a matcher: how many slots it has, its tables and their shapes, its levels, the bindings at
+-- the start, and the choices that are placed
 pub record Match : Type 0 where
   pub slots : ℕ
   pub tables : List Table

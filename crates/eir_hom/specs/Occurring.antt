@@ -5,7 +5,8 @@
 --   is_marked known v         == whether v is marked as known
 --   known_columns cs known p  == the number of columns of the fact at p that have a value known
 --   columns_of K              == the columns of the facts, fact by fact
-use Rattle.std.specs.Prelude.{◌≡◌, ℕ, suc, ◌<◌, ◌≤◌, Bool, false, ◌==◌, ◌&&◌, List, [], ◌∷◌, ◌++◌, map, filter, length, slice_index_or}
+use Rattle.std.specs.Prelude.{◌≡◌, ℕ, suc, ◌<◌, ◌≤◌, Bool, false, ◌==◌, ◌&&◌, List, [], ◌∷◌, ◌++◌, map, filter, length}
+use Rattle.std.specs.Prelude.{slice_index_or}
 use Rattle.eir_term.specs.declared.val.Val.{Val}
 use Rattle.eir_term.specs.declared.fact.Fact.{Fact}
 use Rattle.eir_term.specs.Lists.{◌∈◌, place_of}

@@ -22,4 +22,9 @@ view_weight view = weight view.arity view.bound view.count
 
 -- the view of a fact where these facts are listed
 abbrev pub view_of : List Fact → List (Val × Val) → List Fact → Fact → AtomView
-view_of B start listed f = record { rel = f.rel; arity = length f.args; bound = bound_of start listed f; count = count_of f.rel B }
+view_of B start listed f = record {
+  rel = f.rel;
+  arity = length f.args;
+  bound = bound_of start listed f;
+  count = count_of f.rel B;
+}

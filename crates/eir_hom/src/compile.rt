@@ -17,9 +17,9 @@ use eir_term::{Map, Memory};
 use std::alloc::Global;
 use std::rc::Rc;
 
-/// The matcher for the homomorphisms from `a` to `b` that agree with the start, where the facts of `a` are placed in the
-/// order of this course. It takes time linear in the values and the start; a level is compiled, and its rows are laid,
-/// when the search first comes to it.
+/// The matcher for the homomorphisms from `a` to `b` that agree with the start, where the facts of `a` are placed in
+/// the order of this course. It takes time linear in the values and the start; a level is compiled when the search
+/// first comes to it, and its rows under a number are laid when they are first asked for.
 pub(crate) fn compile(
     alloc: Global,
     guard: &Guard,
@@ -50,7 +50,8 @@ fn bind_start(matcher: &mut Matcher, images: &[Option<usize>]) -> Result<(), Mem
     requires start { matcher.old.start ≡ [] }
     requires levels { matcher.old.levels ≡ [] }
     requires slots { length images.now < matcher.old.slots }
-    ensures { OnOk result (matcher.new ≡ record matcher.old { start = (length images.now, 0) ∷ bindings_from 0 images.now }) }
+    ensures { OnOk result
+        (matcher.new ≡ record matcher.old { start = (length images.now, 0) ∷ bindings_from 0 images.now }) }
 {
     matcher.bind(images.len(), 0)?;
     for value in 0..images.len() {

@@ -1,6 +1,6 @@
 //! The facts of a source in plan order, worked out one after the other.
 ghost use Rattle.std.specs.Prelude.{◌≡◌, ◌+◌, ◌<◌, ◌≤◌, IfOk, Some, length, map, slice_get, take};
-ghost use Rattle.eir_hom.specs.Groups.{AllUnder};
+ghost use Rattle.eir_hom.specs.FactRows.{AllUnder};
 ghost use Rattle.eir_hom.specs.Occurring.{columns_of};
 ghost use Rattle.eir_hom.specs.Compiling.{first_set};
 ghost use Rattle.eir_hom.specs.Courses.{shapes_of};

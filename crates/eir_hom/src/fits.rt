@@ -3,7 +3,7 @@ ghost use Rattle.std.specs.Prelude.{◌≡◌, ℕ, ◌<◌, [], IfOk, length, m
 ghost use Rattle.eir_term.specs.Instances.{values};
 ghost use Rattle.eir_term.specs.Profiles.{is_within};
 ghost use Rattle.eir_hom.specs.Fits.{AreFits, are_fits, fits_row};
-ghost use Rattle.eir_hom.specs.Groups.{AllUnder};
+ghost use Rattle.eir_hom.specs.FactRows.{AllUnder};
 
 use crate::Guard;
 use eir_inst::{Indexed, Profile};

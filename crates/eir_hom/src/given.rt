@@ -1,5 +1,6 @@
 //! The pairs of a start, with the numbers of their first members.
-ghost use Rattle.std.specs.Prelude.{◌≡◌, ◌↔◌, ◌⊎◌, ℕ, ◌+◌, List, ◌++◌, length, take, drop, IfOk, IsSome, Some, None, slice_get};
+ghost use Rattle.std.specs.Prelude.{◌≡◌, ◌↔◌, ◌⊎◌, ℕ, ◌+◌, List, ◌++◌, length, take, drop, IfOk, IsSome, Some, None};
+ghost use Rattle.std.specs.Prelude.{slice_get};
 ghost use Rattle.eir_term.specs.declared.val.Val.{Val};
 ghost use Rattle.eir_term.specs.Lists.{◌∈◌};
 ghost use Rattle.eir_term.specs.Instances as instances;

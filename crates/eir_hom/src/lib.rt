@@ -5,27 +5,29 @@
 //! `1->1, 2->2` and `1->2, 2->1`.
 //!
 //! [`Homs`] lists those that agree with a start map, turn by turn; [`find_hom`] answers the first. The facts of `a` are
-//! placed one after the other in the order of a plan ([`plan_of`]), each at the facts of `b` of its relation whose values
-//! have the right profiles, and that have at the first known column the right value. Each such fact is one try. A
-//! [`Planner`] and a [`Guard`] are a caller's own answers for the weight of a fact and for profiles.
+//! placed one after the other in the order of a plan ([`plan_of`]), each at the facts of `b` of its relation whose
+//! values have the right profiles, and that have at the first known column the right value. Each such fact is one try.
+//! A [`Planner`] and a [`Guard`] are a caller's own answers for the weight of a fact and for profiles.
 //!
 //! A search goes through numbers alone: a value of `a` is a slot, a value of `b` is the number that a slot is bound to,
-//! and the facts that a fact may go to are rows of numbers. Which fact is placed next, what its level binds and which
-//! rows it has is worked out when the search first comes there, in memory that the listing took when it began: most
-//! listings end after a few tries, so beginning is cheap. A try costs a load and a comparison; no turn takes memory or
-//! hashes, and none looks through anything but to work out a level for the first time.
+//! and the facts that a fact may go to are rows of numbers. Which fact is placed next and what its level binds is
+//! worked out when the search first comes there, and the rows for the number at its key column are laid when it first
+//! asks for them, in memory that the listing took when it began: most listings end after a few tries, so beginning is
+//! cheap. A try costs a load and a comparison; no turn takes memory, and none hashes or looks through anything but for
+//! a level, or a number at its key column, to which it comes for the first time.
 //!
 //! # What a contract sees
 //!
-//! A `Homs` is seen as a `Progress` of `specs/Progress`: from what to what it goes, its start, what the last turn found,
-//! the homomorphisms that are still to come, in order, and the tries that are still to be made. At the beginning these
-//! are `homs` and `need` of `eir_term`'s `specs/Search`; what `homs` has and lacks, and in which order, is told by the
-//! laws of `eir_term`'s `proofs/SearchLaws`. A turn takes a homomorphism off where it answers `Found`.
+//! A `Homs` is seen as a `Progress` of `specs/Progress`: from what to what it goes, its start, what the last turn
+//! found, the homomorphisms that are still to come, in order, and the tries that are still to be made. At the beginning
+//! these are `homs` and `need` of `eir_term`'s `specs/Search`; what `homs` has and lacks, and in which order, is told
+//! by the laws of `eir_term`'s `proofs/SearchLaws`. A turn takes a homomorphism off where it answers `Found`.
 //!
-//! Below that a `LazyMatcher` and a `Matcher` are seen as a `Match` of `specs/Matching`, the problem in numbers: the one
-//! with all levels, the other with those that are compiled. A `Course` is seen as the facts in plan order with their
-//! key columns, and a `Stock` as the tables of their rows.
-//! `specs/Levels` says which numbers stand for which facts; the laws of `proofs/NumberLaws` lead from these to the facts.
+//! Below that a `LazyMatcher` and a `Matcher` are seen as a `Match` of `specs/Matching`, the problem in numbers: the
+//! one with all levels, the other with those that are compiled. A `Course` is seen as the facts in plan order with
+//! their key columns, and a `Stock` as the tables of their rows.
+//! `specs/Levels` says which numbers stand for which facts; the laws of `proofs/NumberLaws` lead from these to the
+//! facts.
 //!
 //! # How a caller loops
 //!
@@ -42,7 +44,6 @@ mod find;
 mod fits;
 mod front;
 mod given;
-mod groups;
 mod guard;
 mod homs;
 mod lazy;

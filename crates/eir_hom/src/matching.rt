@@ -1,5 +1,6 @@
 //! What the search goes through: rows of numbers, level by level.
-ghost use Rattle.std.specs.Prelude.{◌≡◌, ◌≢◌, ℕ, ◌+◌, ◌<◌, ◌≤◌, get_or, slice_get, ◌++◌, ◌∷◌, [], Some, None, true, length, take, map, IfOk, IsOk, OnOk, OnErr, vec_capacity};
+ghost use Rattle.std.specs.Prelude.{◌≡◌, ◌≢◌, ℕ, ◌+◌, ◌<◌, ◌≤◌, get_or, slice_get, ◌++◌, ◌∷◌, [], Some, None, true};
+ghost use Rattle.std.specs.Prelude.{length, take, map, IfOk, IsOk, OnOk, OnErr, vec_capacity};
 ghost use Rattle.std.specs.List.{sum_by};
 ghost use Rattle.eir_hom.specs.Levels.{but_at};
 ghost use Rattle.eir_hom.specs.FactRows.{Within};
@@ -31,10 +32,12 @@ struct CompiledLevel {
 }
 
 /// Rows of numbers that are matched level by level: a row of each level is chosen among those that the number of the
-/// level's key slot picks, and binds the level's slots to its numbers; a slot keeps the number that it was first bound to.
+/// level's key slot picks, and binds the level's slots to its numbers; a slot keeps the number that it was first bound
+/// to.
 ///
 /// A slot's number stands in one cell, and so does the range of a level's rows. What a lifted level wrote stays, and
-/// nobody reads it until it is written anew; so no try takes memory, hashes or looks through anything but its row.
+/// nobody reads it until it is written anew; so no try takes memory, and none hashes or looks through anything but its
+/// row, once the rows for each number are laid.
 #[derive(Drop)]
 pub(crate) struct Matcher {
     stock: Box<Stock>,
@@ -72,8 +75,8 @@ impl Model for Matcher {
 }
 
 impl Matcher {
-    /// A matcher of so many slots that has no level and binds nothing, with room for so many levels, with so many columns
-    /// together: one level for each table.
+    /// A matcher of so many slots that has no level and binds nothing, with room for so many levels, with so many
+    /// columns together: one level for each table.
     pub(crate) fn new(
         alloc: Global,
         stock: Stock,
@@ -144,9 +147,9 @@ impl Matcher {
         Ok(())
     }
 
-    /// Appends a level, where all that are there are placed: the rows of its table, that after those of the other levels,
-    /// for the number of the slot `key` bind the slots of these numbers but that at the column. The slot `key` is bound
-    /// before. It takes no memory.
+    /// Appends a level, where all that are there are placed: the rows of its table, that after those of the other
+    /// levels, for the number of the slot `key` bind the slots of these numbers but that at the column. The slot `key`
+    /// is bound before. It takes no memory.
     pub(crate) fn push_level(&mut self, key: usize, column: Option<usize>, numbers: &[usize])
         requires placed { length self.old.placed ≡ length self.old.levels }
         requires table { length self.old.levels < length self.old.tables }
@@ -313,7 +316,7 @@ fn append_columns(columns: &mut Vec<Column>, slots: &[usize]) -> Result<(), Memo
     Ok(())
 }
 
-/// Sets the range of a level to where its rows stand for the number of its key slot, and lays them where that was not
+/// Sets the range of a level to where its rows stand for the number of its key slot, which lays them where that was not
 /// done yet; nothing past the last level.
 fn set_range(
     stock: &mut Stock,

@@ -1,5 +1,6 @@
 //! The order in which a search places the facts of its source.
-ghost use Rattle.std.specs.Prelude.{◌≡◌, ◌++◌, ◌<◌, ◌≤◌, [], ℕ, true, OnOk, IfOk, filter, length, map, slice_index, slice_set};
+ghost use Rattle.std.specs.Prelude.{◌≡◌, ◌++◌, ◌<◌, ◌≤◌, [], ℕ, true, OnOk, IfOk, filter, length, map, slice_index};
+ghost use Rattle.std.specs.Prelude.{slice_set};
 ghost use Rattle.eir_term.specs.Lists.{place_of};
 ghost use Rattle.eir_term.specs.Values.{val_eq};
 ghost use Rattle.eir_term.specs.Instances.{values};

@@ -42,8 +42,8 @@ fn find_number(cells: &[usize], from: usize, to: usize, number: usize) -> usize
     to
 }
 
-/// Tries the rows from `from` on and before `to`, of those that stand from the cell `first` on, up to the first that can
-/// be bound; binds that one and answers it, or answers `to`.
+/// Tries the rows from `from` on and before `to`, of those that stand from the cell `first` on, up to the first that
+/// can be bound; binds that one and answers it, or answers `to`.
 pub(crate) fn scan_rows(
     columns: &[Column],
     cells: &[usize],

@@ -1,5 +1,6 @@
 //! What a start gives.
-ghost use Rattle.std.specs.Prelude.{◌≡◌, ℕ, ◌<◌, Some, None, IfOk, IfSome, if◌then◌else◌, length, map, option_map, slice_get, slice_index_or};
+ghost use Rattle.std.specs.Prelude.{◌≡◌, ℕ, ◌<◌, Some, None, IfOk, IfSome, if◌then◌else◌, length, map, option_map};
+ghost use Rattle.std.specs.Prelude.{slice_get, slice_index_or};
 ghost use Rattle.eir_term.specs.Instances.{values};
 ghost use Rattle.eir_term.specs.Maps.{get};
 ghost use Rattle.eir_hom.specs.Compiling.{given_image, is_here, or_else, with_fixed};

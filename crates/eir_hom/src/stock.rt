@@ -1,16 +1,17 @@
-//! The tables that a search needs, each laid when it is first asked for.
-ghost use Rattle.std.specs.Prelude.{◌≡◌, ℕ, ◌+◌, ◌*◌, ◌<◌, ◌≤◌, ◌++◌, ◌∷◌, [], IfOk, IsOk, OnOk, Some, length, map, take, slice_get, slice_index_or, vec_capacity};
+//! The tables that a search needs, in which the rows of a key are laid when they are first asked for.
+ghost use Rattle.std.specs.Prelude.{◌≡◌, ℕ, ◌+◌, ◌*◌, ◌<◌, ◌≤◌, [], IfOk, IsOk, OnOk, Some, length, map, take};
+ghost use Rattle.std.specs.Prelude.{slice_get, slice_index_or, vec_capacity};
 ghost use Rattle.std.specs.List.{sum_by};
 ghost use Rattle.eir_hom.specs.Occurring.{columns_of};
 ghost use Rattle.eir_hom.specs.Levels.{but_at};
 ghost use Rattle.eir_hom.specs.FactRows.{Within, numbers_at};
 ghost use Rattle.eir_hom.specs.Fits.{AreFits, are_fits};
 ghost use Rattle.eir_hom.specs.Tables.{rows_in, table_at};
-ghost use Rattle.eir_hom.specs.Stocks.{AreShapes, HasRoom, IsShape, IsStocked, cells_for, key_at, key_count, key_in, may_be_at, rel_of, row_length, shape_table};
+ghost use Rattle.eir_hom.specs.Stocks.{AreShapes, IsShape, IsStocked, key_count, may_be_at, rel_of, row_length};
+ghost use Rattle.eir_hom.specs.Stocks.{shape_table, under_key};
 
 use crate::course::{Course, Shape};
 use crate::fits::Fits;
-use crate::groups::Groups;
 use crate::planner::Chooser;
 use crate::tables::{Range, Tables};
 use eir_inst::Indexed;
@@ -20,8 +21,8 @@ use std::marker::Model;
 use std::rc::Rc;
 
 /// A table for each shape of a course: the rows of the facts that the fact of the shape may go to, under the numbers at
-/// its column. A shape is listed, and a table laid, when it is first asked for, in memory that was taken when the stock
-/// was made.
+/// its column. A shape is listed, a table added, and a key laid, when it is first asked for, in memory that was taken
+/// when the stock was made. `places` is where the facts of a key are gathered before their rows are laid.
 #[derive(Drop)]
 pub(crate) struct Stock {
     source: Rc<Indexed>,
@@ -29,15 +30,7 @@ pub(crate) struct Stock {
     fits: Fits,
     course: Course,
     tables: Tables,
-    bench: Bench,
-}
-
-/// What laying a table works in: the places of the facts that go into it, their keys, and the places by key.
-#[derive(Drop)]
-pub(crate) struct Bench {
-    pub(crate) places: Vec<usize>,
-    pub(crate) keys: Vec<usize>,
-    pub(crate) groups: Groups,
+    places: Vec<usize>,
 }
 
 impl Model for Stock {
@@ -45,7 +38,8 @@ impl Model for Stock {
 
     ghost Value = { TablesView };
 
-    ghost use Rattle.std.specs.Prelude.{◌≡◌, map};
+    ghost use Rattle.std.specs.Prelude.{◌≡◌, ◌≤◌, length, map, vec_capacity};
+    ghost use Rattle.eir_hom.specs.Fits.{AreFits};
     ghost use Rattle.eir_hom.specs.Stocks.{IsStocked, shape_table};
 
     ghost view = { λ s. record {
@@ -55,7 +49,9 @@ impl Model for Stock {
     } };
 
     ghost invariant = { λ s. (s.course.source ≡ s.source.value.facts)
-        × IsStocked s.source.value.facts s.target.value.facts s.fits s.course.shapes s.tables s.bench };
+        × AreFits s.source.value.facts s.target.value.facts s.fits
+        × (length s.target.value.facts ≤ vec_capacity s.places)
+        × IsStocked s.source.value.facts s.target.value.facts s.course.shapes s.tables };
 }
 
 impl Stock {
@@ -81,7 +77,7 @@ impl Stock {
         let cells = times(b.len(), course.column_count())?;
         let ranges = times(a.len(), b.values().len() + 1)?;
         let tables = Tables::with_room(alloc, cells, ranges, a.len())?;
-        let bench = Bench::new(alloc, b)?;
+        let places = Vec::with_capacity(alloc, b.len())?;
         let source = a.clone()?;
         let target = b.clone()?;
         Ok(Stock {
@@ -90,7 +86,7 @@ impl Stock {
             fits,
             course,
             tables,
-            bench,
+            places,
         })
     }
 
@@ -103,8 +99,8 @@ impl Stock {
         shape_at(&mut self.course, &self.source, index)
     }
 
-    /// Where the rows of a table under a key stand; the empty range for a key that the table has not. It lays the table
-    /// and those before it, where they are not laid yet, behind the cells that are there, and takes no memory.
+    /// Where the rows of a table under a key stand; the empty range for a key that the table has not. It lays them,
+    /// where they are not laid yet, behind the cells that are there, and takes no memory.
     pub(crate) fn range(&mut self, table: usize, key: usize) -> Range
         requires { table < length self.old.tables }
         ensures tables { self.new.tables ≡ self.old.tables }
@@ -114,18 +110,29 @@ impl Stock {
             ≡ slice_index_or (table_at self.old.tables table).rows key [] }
         ensures within { result.first + result.count * (table_at self.old.tables table).stride ≤ length self.new.cells }
     {
-        if table >= self.tables.len() {
-            lay_to(
-                &self.source,
-                &self.target,
-                &self.fits,
-                &mut self.course,
-                &mut self.tables,
-                &mut self.bench,
-                table,
-            );
+        add_to(
+            &self.source,
+            &self.target,
+            &mut self.course,
+            &mut self.tables,
+            table,
+        );
+        if let Some(range) = self.tables.range(table, key) {
+            return range;
         }
-        self.tables.range(table, key)
+        let shape = shape_at(&mut self.course, &self.source, table);
+        let Ok(()) = gather(
+            &mut self.places,
+            &self.source,
+            &self.target,
+            &self.fits,
+            shape,
+            key,
+        ) else {
+            unreachable!()
+        };
+        self.tables
+            .lay(table, key, shape.column, &self.target, &self.places)
     }
 
     /// The cells that the rows stand in, lent.
@@ -133,19 +140,6 @@ impl Stock {
         ensures { result.now ≡ self.now.cells }
     {
         self.tables.cells()
-    }
-}
-
-impl Bench {
-    /// A bench for tables with the facts of this instance.
-    fn new(alloc: Global, b: &Indexed) -> Result<Bench, Memory>
-        ensures { IfOk result (HasRoom b.now.facts) }
-    {
-        Ok(Bench {
-            places: Vec::with_capacity(alloc, b.len())?,
-            keys: Vec::with_capacity(alloc, b.len())?,
-            groups: Groups::with_room(alloc, b.values().len() + 1, b.len())?,
-        })
     }
 }
 
@@ -160,6 +154,7 @@ fn times(count: usize, each: usize) -> Result<usize, Memory>
 }
 
 /// The shape at an index of a course whose source is `a`; it lists those up to it that are not listed yet.
+#[inline(never)]
 fn shape_at(course: &mut Course, a: &Indexed, index: usize) -> Shape
     requires source { a.now.facts ≡ course.old.source }
     requires index { index < length course.old.shapes }
@@ -173,58 +168,22 @@ fn shape_at(course: &mut Course, a: &Indexed, index: usize) -> Shape
     course.get(index)
 }
 
-/// Lays the tables up to that of a shape, the first of those that are missing first.
-fn lay_to(
-    a: &Indexed,
-    b: &Indexed,
-    fits: &Fits,
-    course: &mut Course,
-    tables: &mut Tables,
-    bench: &mut Bench,
-    last: usize,
-)
+/// Adds the tables up to that of a shape that are not there, with no key laid.
+fn add_to(a: &Indexed, b: &Indexed, course: &mut Course, tables: &mut Tables, last: usize)
     requires source { a.now.facts ≡ course.old.source }
-    requires missing { length tables.old.tables ≤ last }
     requires last { last < length course.old.shapes }
-    requires stocked { IsStocked a.now.facts b.now.facts fits.now course.old.shapes tables.old bench.old }
+    requires stocked { IsStocked a.now.facts b.now.facts course.old.shapes tables.old }
     ensures source { course.new.source ≡ course.old.source }
     ensures shapes { course.new.shapes ≡ course.old.shapes }
-    ensures stocked { IsStocked a.now.facts b.now.facts fits.now course.old.shapes tables.new bench.new }
-    ensures cells { take (length tables.old.cells) tables.new.cells ≡ tables.old.cells }
-    ensures laid { last < length tables.new.tables }
+    ensures stocked { IsStocked a.now.facts b.now.facts course.old.shapes tables.new }
+    ensures cells { tables.new.cells ≡ tables.old.cells }
+    ensures last { last < length tables.new.tables }
 {
     while tables.len() <= last {
         let shape = shape_at(course, a, tables.len());
-        lay(a, b, fits, shape, tables, bench);
+        let stride = stride_of(shape.column, a.numbers_at(shape.place));
+        tables.add(stride, keys_for(shape.column, b));
     }
-}
-
-/// Lays the table of a shape behind the others.
-fn lay(a: &Indexed, b: &Indexed, fits: &Fits, shape: Shape, tables: &mut Tables, bench: &mut Bench)
-    requires fits { AreFits a.now.facts b.now.facts fits.now }
-    requires shape { IsShape a.now.facts shape }
-    requires room { HasRoom b.now.facts bench.old }
-    requires cells_room { length tables.old.cells + cells_for a.now.facts b.now.facts shape ≤ tables.old.cells_room }
-    requires ranges_room { tables.old.ranges + key_count b.now.facts shape.column ≤ tables.old.ranges_room }
-    requires tables_room { length tables.old.tables < tables.old.tables_room }
-    ensures tables { tables.new.tables ≡ tables.old.tables ++ shape_table a.now.facts b.now.facts shape ∷ [] }
-    ensures cells { take (length tables.old.cells) tables.new.cells ≡ tables.old.cells }
-    ensures cells_count { length tables.new.cells ≤ length tables.old.cells + cells_for a.now.facts b.now.facts shape }
-    ensures ranges { tables.new.ranges ≡ tables.old.ranges + key_count b.now.facts shape.column }
-    ensures cells_kept { tables.old.cells_room ≤ tables.new.cells_room }
-    ensures ranges_kept { tables.old.ranges_room ≤ tables.new.ranges_room }
-    ensures tables_kept { tables.old.tables_room ≤ tables.new.tables_room }
-    ensures room { HasRoom b.now.facts bench.new }
-{
-    let Ok(()) = gather(&mut bench.places, &mut bench.keys, a, b, fits, shape) else {
-        unreachable!()
-    };
-    let count = keys_for(shape.column, b);
-    let Ok(()) = bench.groups.fill(&bench.keys, &bench.places, count) else {
-        unreachable!()
-    };
-    let stride = stride_of(shape.column, a.numbers_at(shape.place));
-    tables.add(stride, shape.column, b, &bench.groups);
 }
 
 /// The length of a row but for the column.
@@ -238,56 +197,6 @@ pub(crate) fn stride_of(column: Option<usize>, numbers: &[usize]) -> usize
     }
 }
 
-/// The relation of the fact at a place.
-fn rel_at(a: &Indexed, place: usize) -> u32
-    requires { place < length a.now.facts }
-    ensures { result ≡ rel_of a.now.facts place }
-{
-    a.as_slice()[place].rel
-}
-
-/// The places of the facts that the fact of the shape may go to, and the numbers that they have at its column. It fails
-/// only where room is missing.
-fn gather(
-    places: &mut Vec<usize>,
-    keys: &mut Vec<usize>,
-    a: &Indexed,
-    b: &Indexed,
-    fits: &Fits,
-    shape: Shape,
-) -> Result<(), Memory>
-    requires fits { AreFits a.now.facts b.now.facts fits.now }
-    requires shape { IsShape a.now.facts shape }
-    ensures places { OnOk result (places.new.items ≡ may_be_at a.now.facts b.now.facts (are_fits a.now.facts b.now.facts) shape) }
-    ensures keys { OnOk result (keys.new.items ≡ map (key_at b.now.facts shape.column) places.new.items) }
-    ensures places_room { vec_capacity places.old ≤ vec_capacity places.new }
-    ensures keys_room { vec_capacity keys.old ≤ vec_capacity keys.new }
-    ensures room { length b.now.facts ≤ vec_capacity places.old → length b.now.facts ≤ vec_capacity keys.old → IsOk result }
-{
-    places.clear();
-    keys.clear();
-    let row = a.numbers_at(shape.place);
-    for place in b.places_of(rel_at(a, shape.place)) {
-        let numbers = b.numbers_at(*place);
-        if fits.pass(a, b, row, numbers) {
-            places.push(*place)?;
-            keys.push(key_of(shape.column, numbers))?;
-        }
-    }
-    Ok(())
-}
-
-/// The number at the column, or 0 where no column is named.
-fn key_of(column: Option<usize>, numbers: &[usize]) -> usize
-    requires { Within column numbers.now }
-    ensures { result ≡ key_in column numbers.now }
-{
-    match column {
-        Some(column) => numbers[column],
-        None => 0,
-    }
-}
-
 /// The number of keys of a table: one for each number in `b`, and one for what is no value of `b`.
 fn keys_for(column: Option<usize>, b: &Indexed) -> usize
     ensures { result ≡ key_count b.now.facts column }
@@ -296,4 +205,53 @@ fn keys_for(column: Option<usize>, b: &Indexed) -> usize
         Some(_) => b.values().len() + 1,
         None => 1,
     }
+}
+
+/// The relation of the fact at a place.
+fn rel_at(a: &Indexed, place: usize) -> u32
+    requires { place < length a.now.facts }
+    ensures { result ≡ rel_of a.now.facts place }
+{
+    a.as_slice()[place].rel
+}
+
+/// The places of the facts of a relation under a key, ascending: those that have the value with this number at the
+/// column, or all where no column is named.
+fn places_under(b: &Indexed, rel: u32, column: Option<usize>, key: usize) -> &[usize]
+    ensures { result.now ≡ under_key b.now.facts rel column key }
+{
+    match column {
+        None => b.places_of(rel),
+        Some(column) => match b.values().get(key) {
+            Some(value) => b.places_with(rel, column, *value),
+            None => &[],
+        },
+    }
+}
+
+/// The places of the facts under a key that the fact of the shape may go to. It fails only where room is missing.
+#[inline(never)]
+fn gather(
+    places: &mut Vec<usize>,
+    a: &Indexed,
+    b: &Indexed,
+    fits: &Fits,
+    shape: Shape,
+    key: usize,
+) -> Result<(), Memory>
+    requires fits { AreFits a.now.facts b.now.facts fits.now }
+    requires shape { IsShape a.now.facts shape }
+    ensures places { OnOk result
+        (places.new.items ≡ may_be_at a.now.facts b.now.facts (are_fits a.now.facts b.now.facts) shape key) }
+    ensures capacity { vec_capacity places.old ≤ vec_capacity places.new }
+    ensures room { length b.now.facts ≤ vec_capacity places.old → IsOk result }
+{
+    places.clear();
+    let row = a.numbers_at(shape.place);
+    for place in places_under(b, rel_at(a, shape.place), shape.column, key) {
+        if fits.pass(a, b, row, b.numbers_at(*place)) {
+            places.push(*place)?;
+        }
+    }
+    Ok(())
 }

@@ -1,12 +1,12 @@
 //! Rows of numbers in flat memory.
-ghost use Rattle.std.specs.Prelude.{◌≡◌, ℕ, ◌+◌, ◌*◌, ◌<◌, ◌≤◌, List, [], ◌∷◌, ◌++◌, IfOk, IsOk, OnOk, length, map, flat_map, slice_index_or, vec_capacity};
+ghost use Rattle.std.specs.Prelude.{◌≡◌, ℕ, ◌+◌, ◌*◌, ◌<◌, ◌≤◌, [], ◌∷◌, ◌++◌, None, Some, IfOk, IfSome, IsOk, OnOk};
+ghost use Rattle.std.specs.Prelude.{length, map, flat_map, option_map, replicate, slice_index_or, slice_set};
+ghost use Rattle.std.specs.Prelude.{vec_capacity};
 ghost use Rattle.eir_term.specs.Lists.{◌∈◌};
 ghost use Rattle.eir_hom.specs.Levels.{but_at};
 ghost use Rattle.eir_hom.specs.FactRows.{HaveRows, IsPlace, Within, row_at};
-ghost use Rattle.eir_hom.specs.Tables.{rows_in, table_at};
-ghost use Rattle.eir_hom.specs.Layouts.{laid};
+ghost use Rattle.eir_hom.specs.Tables.{laid_at, rows_in, with_rows};
 
-use crate::groups::Groups;
 use eir_inst::Indexed;
 use eir_term::Memory;
 use std::alloc::Global;
@@ -27,11 +27,12 @@ struct Layout {
     stride: usize,
 }
 
-/// Rows of numbers, table by table and key by key, one behind the other in memory.
+/// Rows of numbers, for each table those of the keys that are laid so far. A table has a range for each key, and none
+/// where the key is not laid.
 #[derive(Drop)]
 pub(crate) struct Tables {
     cells: Vec<usize>,
-    ranges: Vec<Range>,
+    ranges: Vec<Option<Range>>,
     layouts: Vec<Layout>,
 }
 
@@ -52,7 +53,7 @@ impl Model for Tables {
       tables_room = vec_capacity t.layouts;
     } };
 
-    ghost invariant = { λ t. AreLaid t.cells.items t.ranges.items t.layouts.items };
+    ghost invariant = { λ t. AreLaid t.cells.items t.ranges.items 0 t.layouts.items };
 }
 
 impl Tables {
@@ -86,48 +87,86 @@ impl Tables {
         self.layouts.len()
     }
 
-    /// Adds a table behind these, for which there is room: its keys are the groups, and under each stand the rows of the
-    /// facts at the group's places, which leave out the column.
-    pub(crate) fn add(&mut self, stride: usize, column: Option<usize>, b: &Indexed, groups: &Groups)
-        requires rows { HaveRows b.now.facts column stride groups.now.groups }
-        requires cells_room { length self.old.cells + length (flat_map (flat_map (row_at b.now.facts column)) groups.now.groups)
-            ≤ self.old.cells_room }
-        requires ranges_room { self.old.ranges + length groups.now.groups ≤ self.old.ranges_room }
+    /// Adds a table behind these, for which there is room. None of its keys is laid.
+    #[inline(never)]
+    pub(crate) fn add(&mut self, stride: usize, keys: usize)
+        requires ranges_room { self.old.ranges + keys ≤ self.old.ranges_room }
         requires tables_room { length self.old.tables < self.old.tables_room }
         ensures tables { self.new.tables ≡ self.old.tables
-            ++ record { stride = stride; rows = map (map (row_at b.now.facts column)) groups.now.groups } ∷ [] }
-        ensures cells { self.new.cells ≡ self.old.cells ++ flat_map (flat_map (row_at b.now.facts column)) groups.now.groups }
-        ensures ranges { self.new.ranges ≡ self.old.ranges + length groups.now.groups }
+            ++ record { stride = stride; rows = replicate keys None } ∷ [] }
+        ensures cells { self.new.cells ≡ self.old.cells }
+        ensures ranges { self.new.ranges ≡ self.old.ranges + keys }
         ensures cells_kept { self.old.cells_room ≤ self.new.cells_room }
         ensures ranges_kept { self.old.ranges_room ≤ self.new.ranges_room }
         ensures tables_kept { self.old.tables_room ≤ self.new.tables_room }
     {
-        let layout = Layout {
-            first: self.ranges.len(),
-            keys: groups.len(),
-            stride,
-        };
-        let Ok(()) = lay(&mut self.cells, &mut self.ranges, column, b, groups) else {
+        let first = self.ranges.len();
+        let Ok(()) = self.ranges.resize(first + keys, None) else {
             unreachable!()
         };
-        let Ok(()) = self.layouts.push(layout) else {
+        let Ok(()) = self.layouts.push(Layout {
+            first,
+            keys,
+            stride,
+        })
+        else {
             unreachable!()
         };
     }
 
-    /// Where the rows of a key stand; the empty range for a key that the table has not.
-    pub(crate) fn range(&self, table: usize, key: usize) -> Range
+    /// Where the rows of a key stand, if it is laid; the empty range for a key that the table has not.
+    pub(crate) fn range(&self, table: usize, key: usize) -> Option<Range>
         requires { table < length self.now.tables }
-        ensures rows { rows_in self.now.cells (table_at self.now.tables table).stride result
-            ≡ slice_index_or (table_at self.now.tables table).rows key [] }
-        ensures within { result.first + result.count * (table_at self.now.tables table).stride ≤ length self.now.cells }
+        ensures rows { option_map (rows_in self.now.cells (laid_at self.now.tables table).stride) result
+            ≡ slice_index_or (laid_at self.now.tables table).rows key (Some []) }
+        ensures within { IfSome result (λ range. range.first + range.count * (laid_at self.now.tables table).stride
+            ≤ length self.now.cells) }
     {
         let layout = self.layouts[table];
         if key < layout.keys {
             self.ranges[layout.first + key]
         } else {
-            Range { first: 0, count: 0 }
+            Some(Range { first: 0, count: 0 })
         }
+    }
+
+    /// Lays the rows of the facts at these places under a key, for which there is room, and answers where they stand.
+    /// The rows leave out the column.
+    #[inline(never)]
+    pub(crate) fn lay(
+        &mut self,
+        table: usize,
+        key: usize,
+        column: Option<usize>,
+        b: &Indexed,
+        places: &[usize],
+    ) -> Range
+        requires table { table < length self.old.tables }
+        requires key { key < length (laid_at self.old.tables table).rows }
+        requires rows { HaveRows b.now.facts column (laid_at self.old.tables table).stride places.now }
+        requires cells_room { length self.old.cells + length places.now * (laid_at self.old.tables table).stride
+            ≤ self.old.cells_room }
+        ensures tables { self.new.tables ≡ slice_set self.old.tables table
+            (with_rows (laid_at self.old.tables table) key (map (row_at b.now.facts column) places.now)) }
+        ensures cells { self.new.cells ≡ self.old.cells ++ flat_map (row_at b.now.facts column) places.now }
+        ensures ranges { self.new.ranges ≡ self.old.ranges }
+        ensures cells_kept { self.old.cells_room ≤ self.new.cells_room }
+        ensures ranges_kept { self.old.ranges_room ≤ self.new.ranges_room }
+        ensures tables_kept { self.old.tables_room ≤ self.new.tables_room }
+        ensures rows { rows_in self.new.cells (laid_at self.old.tables table).stride result
+            ≡ map (row_at b.now.facts column) places.now }
+        ensures within { result.first + result.count * (laid_at self.old.tables table).stride ≤ length self.new.cells }
+    {
+        let range = Range {
+            first: self.cells.len(),
+            count: places.len(),
+        };
+        let Ok(()) = push_rows(&mut self.cells, column, b, places) else {
+            unreachable!()
+        };
+        let first = self.layouts[table].first;
+        self.ranges[first + key] = Some(range);
+        range
     }
 
     /// The cells that the rows stand in, lent.
@@ -136,35 +175,6 @@ impl Tables {
     {
         self.cells.as_slice()
     }
-}
-
-/// Appends the rows of each group of places, and their ranges. It fails only where room is missing.
-fn lay(
-    cells: &mut Vec<usize>,
-    ranges: &mut Vec<Range>,
-    column: Option<usize>,
-    b: &Indexed,
-    groups: &Groups,
-) -> Result<(), Memory>
-    requires { (ps : List ℕ) → ps ∈ groups.now.groups → (p : ℕ) → p ∈ ps → IsPlace b.now.facts column p }
-    ensures cells { OnOk result (cells.new.items
-        ≡ cells.old.items ++ flat_map (flat_map (row_at b.now.facts column)) groups.now.groups) }
-    ensures ranges { OnOk result (ranges.new.items
-        ≡ ranges.old.items ++ laid (row_at b.now.facts column) (length cells.old.items) groups.now.groups) }
-    ensures cells_room { vec_capacity cells.old ≤ vec_capacity cells.new }
-    ensures ranges_room { vec_capacity ranges.old ≤ vec_capacity ranges.new }
-    ensures room { length cells.old.items + length (flat_map (flat_map (row_at b.now.facts column)) groups.now.groups) ≤ vec_capacity cells.old
-        → length ranges.old.items + length groups.now.groups ≤ vec_capacity ranges.old → IsOk result }
-{
-    for key in 0..groups.len() {
-        let places = groups.group(key);
-        ranges.push(Range {
-            first: cells.len(),
-            count: places.len(),
-        })?;
-        push_rows(cells, column, b, places)?;
-    }
-    Ok(())
 }
 
 /// Appends the rows of the facts at these places. It fails only where room is missing.
@@ -177,7 +187,8 @@ fn push_rows(
     requires { (p : ℕ) → p ∈ places.now → IsPlace b.now.facts column p }
     ensures cells { OnOk result (cells.new.items ≡ cells.old.items ++ flat_map (row_at b.now.facts column) places.now) }
     ensures capacity { vec_capacity cells.old ≤ vec_capacity cells.new }
-    ensures room { length cells.old.items + length (flat_map (row_at b.now.facts column) places.now) ≤ vec_capacity cells.old → IsOk result }
+    ensures room { length cells.old.items + length (flat_map (row_at b.now.facts column) places.now)
+        ≤ vec_capacity cells.old → IsOk result }
 {
     for place in places {
         push_row(cells, column, b.numbers_at(*place))?;

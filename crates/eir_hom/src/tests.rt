@@ -83,8 +83,8 @@ pub(crate) fn go_on<L: Ledger>(
     Ok((count, found, HomTurn::Going))
 }
 
-/// The edges of a source and of a target, a constant that the start moves, how many homomorphisms there are, their pairs
-/// in order, and the tries that listing them takes.
+/// The edges of a source and of a target, a constant that the start moves, how many homomorphisms there are, their
+/// pairs in order, and the tries that listing them takes.
 #[derive(Drop)]
 struct Case<'a> {
     source: &'a [(Val, Val)],

@@ -1,20 +1,20 @@
 -- What the index says of the facts that the owner sees. The points are `IsIndex-push`: the index after one fact more, and
 -- the laws of the look-ups by key and by value.
-use Rattle.std.proofs.Common.{◌≡◌, ◌↔◌, ℕ, suc, ◌+◌, ◌-◌, ◌<◌, ◌≤◌, inl, inr, Bool, true, false, cond, Decides, Result, Ok, Err, OnOk, OnErr, IfOk, is_err, take, List, [], ◌∷◌, ◌++◌, map, filter, length, get_or, Option, Some, None, IsSome, is_some, position, option_map, slice_get, refl, sym, ◌∙◌, ap, ap₂, subst, arith, nat_lt}
+use Rattle.std.proofs.Common.{◌≡◌, ◌↔◌, ◌==◌, ◌&&◌, ℕ, suc, ◌+◌, ◌-◌, ◌<◌, ◌^◌, ◌≤◌, inl, inr, Bool, true, false, cond, Decides, Result, Ok, Err, OnOk, OnErr, IfOk, is_err, take, List, [], ◌∷◌, ◌++◌, map, filter, length, get_or, Option, Some, None, IsSome, is_some, position, option_map, unwrap_or, slice_get, refl, sym, ◌∙◌, ap, ap₂, subst, arith, nat_lt}
 use Rattle.std.specs.List.{position_or_len, list_any}
 use Rattle.std.proofs.lemmas.Bool.{cases_Bool, false≢true}
 use Rattle.std.proofs.lemmas.Bool.Decides.{Decides-ltb}
-use Rattle.std.proofs.lemmas.Option.{same_Some, none-some, slice_get_within, slice_get-map, get_or_from_slice_get}
+use Rattle.std.proofs.lemmas.Option.{same_Some, none-some, slice_get_past, slice_get_within, slice_get-map, get_or_from_slice_get}
 use Rattle.std.proofs.lemmas.List.{take_all}
 use Rattle.std.proofs.Math.Seq.{take-append_seam, take-suc}
 use Rattle.indexmap.specs.IndexSet.{insert_key, insert_all}
 use Rattle.eir_term.specs.declared.val.Val.{Val}
 use Rattle.eir_term.specs.declared.fact.Fact.{Fact}
-use Rattle.eir_term.specs.Lists.{◌∈◌, IsDistinct, place_of}
+use Rattle.eir_term.specs.Lists.{◌∈◌, IsDistinct, place_of, places}
 use Rattle.eir_term.specs.Values.{val_eq}
 use Rattle.eir_term.specs.Facts.{fact_eq, fact_eq-decides}
 use Rattle.eir_term.specs.Instances.{values, is_ground, ground_part}
-use Rattle.eir_term.specs.Profiles.{Mark, profile}
+use Rattle.eir_term.specs.Profiles.{Mark, has_at, profile}
 use Rattle.eir_term.proofs.ListLaws.{slice_get-place_of, ∈-list_any, ∈-list_any_from}
 use Rattle.eir_term.proofs.OrderLaws.{place_of-slice_get}
 use Rattle.eir_inst.specs.declared.index.Index.{Index}
@@ -76,21 +76,29 @@ values-seen K facts x seen i = i.values ∙ ap values seen
 -- the index of the facts stays one where each of its parts is seen as before
 pub IsIndex-same : (K : List Fact) (x y : Index) → IsIndex K x → ((k : Key) → listed y.postings.lists k ≡ listed x.postings.lists k) → y.numbering.values.keys ≡ x.numbering.values.keys → y.numbering.rows.items ≡ x.numbering.rows.items →
     y.numbering.profiles.items ≡ x.numbering.profiles.items → IsIndex K y
-IsIndex-same K x y i l v r p = record { postings = λ k. l k ∙ i.postings k; values = v ∙ i.values; rows = r ∙ i.rows; profiles = p ∙ i.profiles }
+IsIndex-same K x y i l v r p = record { postings = λ k. l k ∙ i.postings k; values = v ∙ i.values; rows = r ∙ i.rows; profiles = p ∙ i.profiles; short = i.short }
+
+-- each fact is as short as the others and one more
+short-push : (K : List Fact) (f : Fact) → ((g : Fact) → g ∈ K → length g.args < 2 ^ 32) → length f.args < 2 ^ 32 → (g : Fact) → g ∈ (K ++ f ∷ []) → length g.args < 2 ^ 32
+short-push [] f all few g (inl e) = subst (λ (h : Fact). length h.args < 2 ^ 32) (sym e) few
+short-push [] f all few g (inr h) = absurd h
+short-push (k ∷ K) f all few g (inl e) = all g (inl e)
+short-push (k ∷ K) f all few g (inr h) = short-push K f (λ i m. all i (inr m)) few g h
 
 -- the index after one fact more
-pub IsIndex-push : {T E : Type 0} (r : Result T E) (x y : Index) (f : Fact) (p : ℕ) → ((k : Key) → listed y.postings.lists k ≡ listed x.postings.lists k ++ in_fact p f k) →
+pub IsIndex-push : {T E : Type 0} (r : Result T E) (x y : Index) (f : Fact) (p : ℕ) → length f.args < 2 ^ 32 → ((k : Key) → listed y.postings.lists k ≡ listed x.postings.lists k ++ in_fact p f k) →
     OnOk r (y.numbering.values.keys ≡ insert_all val_eq x.numbering.values.keys f.args) → OnOk r (y.numbering.rows.items ≡ x.numbering.rows.items ++ numbers_of y.numbering.values.keys f.args ∷ []) →
     OnOk r ((n : ℕ) → slice_get y.numbering.profiles.items n ≡ option_map (grown f.rel 0 (numbers_of y.numbering.values.keys f.args) n) (slice_get (x.numbering.profiles.items ++ blank (length y.numbering.values.keys - length x.numbering.profiles.items)) n)) →
     OnOk r ((K : List Fact) → length K ≡ p → IsIndex K x → IsIndex (K ++ f ∷ []) y)
-IsIndex-push (Err e) x y f p l v r g = tt
-IsIndex-push (Ok o) x y f p l v r g = λ K n i.
+IsIndex-push (Err e) x y f p few l v r g = tt
+IsIndex-push (Ok o) x y f p few l v r g = λ K n i.
     let keys : y.numbering.values.keys ≡ values (K ++ f ∷ []) = v ∙ ap (λ vs. insert_all val_eq vs f.args) i.values ∙ values-push K f in
     record {
       postings = places-with (listed x.postings.lists) (listed y.postings.lists) K f p n i.postings l;
       values = keys;
       rows = r ∙ ap (λ rs. rs ++ numbers_of y.numbering.values.keys f.args ∷ []) i.rows ∙ rows-push K f y.numbering.values.keys keys;
       profiles = profiles-push K f y.numbering.values.keys x.numbering.profiles.items y.numbering.profiles.items keys i.profiles g;
+      short = short-push K f i.short few;
     }
 
 -- the index where the fact's values found no memory, and its place was taken off again
@@ -154,3 +162,15 @@ if-ok (Err z) x y e h = tt
 -- a value without a number has no mark
 pub unnumbered : (facts : List Fact) (v : Val) (r : Option ℕ) → r ≡ None → (v ∈ values facts → IsSome r) → [] ≡ profile facts v
 unnumbered facts v r e h = sym (profile-absent facts v (λ i. false≢true (sym (ap is_some e) ∙ h i)))
+
+and-false : (b : Bool) → (b && false) ≡ false
+and-false true = refl
+and-false false = refl
+
+-- no fact has a value at a column past the last of a short one
+pub none-past : (rel column : ℕ) (v : Val) (n : ℕ) (K : List Fact) → 2 ^ 32 ≤ column → ((f : Fact) → f ∈ K → length f.args < 2 ^ 32) → places (has_at rel column v) n K ≡ []
+none-past rel column v n [] far short = refl
+none-past rel column v n (f ∷ K) far short =
+    let none : slice_get f.args column ≡ None = slice_get_past f.args column (omega (arith, short f (inl refl))) in
+    let no : has_at rel column v f ≡ false = ap (λ o. (f.rel == rel) && unwrap_or (option_map (val_eq v) o) false) none ∙ and-false (f.rel == rel) in
+    rw no (none-past rel column v (suc n) K far (λ g h. short g (inr h)))

@@ -9,4 +9,5 @@ pub mod WithoutLaws
 pub mod StayingLaws
 pub mod WalkLaws
 pub mod LayerLaws
+pub mod OccurLaws
 pub mod IndexLaws

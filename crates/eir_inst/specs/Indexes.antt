@@ -1,8 +1,8 @@
 -- What the index of an instance holds: for each of its parts the word for it (this project's own).
 --   IsIndex K x   == x is the index of the facts K
-use Rattle.std.specs.Prelude.{◌≡◌, List, map}
+use Rattle.std.specs.Prelude.{◌≡◌, ◌<◌, ◌^◌, List, length, map}
 use Rattle.eir_term.specs.declared.fact.Fact.{Fact}
-use Rattle.eir_term.specs.Lists.{places}
+use Rattle.eir_term.specs.Lists.{◌∈◌, places}
 use Rattle.eir_term.specs.Instances as instances
 use Rattle.eir_term.specs.Profiles.{profile}
 use Rattle.eir_inst.specs.declared.index.Index.{Index}
@@ -21,3 +21,5 @@ pub record IsIndex (K : List Fact) (x : Index) : Type 0 where
   pub rows : x.numbering.rows.items ≡ map (λ f. numbers_of (instances.values K) f.args) K
   -- each value has its profile
   pub profiles : x.numbering.profiles.items ≡ map (profile K) (instances.values K)
+  -- no fact has more values than there are columns to list it by
+  pub short : (f : Fact) → f ∈ K → length f.args < 2 ^ 32

@@ -46,5 +46,6 @@ key_eq-decides (Column r i v) (Column s j w) = (
   λ e. let a : r ≡ s = cc in
       let b : i ≡ j = cc in
       let d : v ≡ w = cc in
-      and_from (r == s) ((i == j) && val_eq v w) ((Decides-eqb r s).1 a) (and_from (i == j) (val_eq v w) ((Decides-eqb i j).1 b) ((val_eq-decides v w).1 d)),
+      and_from (r == s) ((i == j) && val_eq v w) ((Decides-eqb r s).1 a)
+      (and_from (i == j) (val_eq v w) ((Decides-eqb i j).1 b) ((val_eq-decides v w).1 d)),
 )

@@ -28,7 +28,8 @@ impl Index {
 
     /// Makes the index of some facts that of these and one more, which stands at `place`, behind them.
     pub(crate) fn push(&mut self, fact: &Fact, place: usize) -> Result<(), Memory>
-        ensures ok { OnOk result ((K : List Fact) → length K ≡ place → IsIndex K self.old → IsIndex (K ++ fact.now ∷ []) self.new) }
+        ensures ok { OnOk result ((K : List Fact) → length K ≡ place → IsIndex K self.old
+            → IsIndex (K ++ fact.now ∷ []) self.new) }
         ensures err { OnErr result ((K : List Fact) → IsIndex K self.old → IsIndex K self.new) }
     {
         if fact.args.as_slice().len() > u32::MAX as usize {

@@ -1,5 +1,6 @@
 //! Facts with their index.
-ghost use Rattle.std.specs.Prelude.{List, ◌≡◌, ◌++◌, ◌∷◌, ◌<◌, ◌↔◌, ◌==◌, [], ℕ, Some, IsSome, IfOk, OnOk, OnErr, length, map, slice_get, slice_index_or, option_map};
+ghost use Rattle.std.specs.Prelude.{List, ◌≡◌, ◌++◌, ◌∷◌, ◌<◌, ◌↔◌, ◌==◌, [], ℕ, Some, IsSome, IfOk, OnOk, OnErr};
+ghost use Rattle.std.specs.Prelude.{length, map, slice_get, slice_index_or, option_map};
 ghost use Rattle.eir_term.specs.declared.fact.Fact.{Fact};
 ghost use Rattle.eir_term.specs.Lists.{◌∈◌, IsDistinct, places};
 ghost use Rattle.eir_term.specs.Instances as instances;
@@ -103,6 +104,17 @@ impl Indexed {
         self.list(Key::Relation(rel))
     }
 
+    /// The places of the facts of the relation that have the value at the column, counted from 0, ascending.
+    pub fn places_with(&self, rel: u32, column: usize, val: Val) -> &[usize]
+        ensures { result.now ≡ places (profiles.has_at rel column val) 0 self.now.facts }
+    {
+        let postings = &self.index.postings;
+        match u32::try_from(column) {
+            Ok(column) => postings.list(Key::Column(rel, column, val)),
+            Err(_) => &[],
+        }
+    }
+
     /// The values by first occurrence, fact by fact and column by column. A value's number is its place here.
     pub fn values(&self) -> &[Val]
         ensures values { result.now ≡ instances.values self.now.facts }
@@ -122,7 +134,8 @@ impl Indexed {
     /// The numbers of the values of the fact at a place, column by column.
     pub fn numbers_at(&self, place: usize) -> &[usize]
         requires { place < length self.now.facts }
-        ensures { Some result.now ≡ option_map (λ f. numbers_of (instances.values self.now.facts) f.args) (slice_get self.now.facts place) }
+        ensures { Some result.now
+            ≡ option_map (λ f. numbers_of (instances.values self.now.facts) f.args) (slice_get self.now.facts place) }
     {
         self.index.numbering.rows[place].as_slice()
     }

@@ -1,7 +1,10 @@
 //! Instances.
-ghost use Rattle.std.specs.Prelude.{List, ◌≡◌, ◌++◌, ◌∷◌, ◌≤◌, ◌↔◌, [], ℕ, false, ◌==◌, IsTrue, IsErrOf, IsOk, IfOk, IfSome, OnOk, OnErr, filter, length, option_copied, slice_get};
+ghost use Rattle.std.specs.Prelude.{List, ◌≡◌, ◌++◌, ◌∷◌, ◌≤◌, ◌↔◌, [], ℕ, false, ◌==◌, IsTrue, IsErrOf, IsOk, IfOk};
+ghost use Rattle.std.specs.Prelude.{IfSome, OnOk, OnErr, filter, length, option_copied, slice_get};
+ghost use Rattle.std.specs.List.{list_any};
 ghost use Rattle.eir_term.specs.declared.fact.Fact.{Fact};
 ghost use Rattle.eir_term.specs.Lists.{◌∈◌, IsDistinct, without};
+ghost use Rattle.eir_term.specs.Values.{val_eq};
 ghost use Rattle.eir_term.specs.Facts.{fact_eq};
 ghost use Rattle.eir_term.specs.Instances as instances;
 ghost use Rattle.eir_term.specs.Profiles as profiles;
@@ -14,7 +17,8 @@ use crate::indexed::Indexed;
 use crate::key::Key;
 use crate::profile::Profile;
 use crate::staying::{
-    count_staying, gone_count, nth_fact, nth_staying, place_staying, push_staying, unmarked,
+    count_staying, gone_count, has_value_among, nth_fact, nth_staying, place_staying, push_staying,
+    unmarked, value_stays,
 };
 use eir_term::{Fact, Memory, Val};
 use std::alloc::Global;
@@ -102,8 +106,8 @@ impl Instance {
     }
 
     /// Puts a fact in, behind the others. All memory is taken first. It costs the hash of the fact and a look at each
-    /// fact that was added beside the base; where the instance has a base of its own, also the hashes of the fact's values
-    /// and keys.
+    /// fact that was added beside the base; where the instance has a base of its own, also the hashes of the fact's
+    /// values and keys.
     pub fn insert(&mut self, fact: Fact) -> Result<(), InsertRefused>
         ensures ok { OnOk result (self.new ≡ record { facts = self.old.facts ++ fact ∷ []; limit = self.old.limit }) }
         ensures err { OnErr result (self.new ≡ self.old) }
@@ -127,10 +131,11 @@ impl Instance {
         }
     }
 
-    /// Takes a fact out; the others stay in order. It takes no memory, and costs the hash of the fact and a look at each
-    /// fact that was added beside the base.
+    /// Takes a fact out; the others stay in order. It takes no memory, and costs the hash of the fact and a look at
+    /// each fact that was added beside the base.
     pub fn remove(&mut self, fact: &Fact) -> Result<(), Missing>
-        ensures ok { OnOk result (self.new ≡ record { facts = without fact_eq fact.now self.old.facts; limit = self.old.limit }) }
+        ensures ok { OnOk result (self.new
+            ≡ record { facts = without fact_eq fact.now self.old.facts; limit = self.old.limit }) }
         ensures err { OnErr result (self.new ≡ self.old) }
         ensures there { IsOk result ↔ (fact.now ∈ self.old.facts) }
     {
@@ -149,6 +154,16 @@ impl Instance {
     {
         place_staying(self.base.indexed(), &self.gone, fact).is_some()
             || place_among(&self.added, fact).is_some()
+    }
+
+    /// Whether the value occurs in a fact. It costs the hash of the value and a look at each fact that was added beside
+    /// the base; where a fact of the base is gone, a look at each fact.
+    pub fn has_value(&self, val: Val) -> bool
+        ensures { result ≡ list_any (val_eq val) (instances.occurrences self.now.facts) }
+    {
+        let staying = self.count - self.added.len();
+        value_stays(self.base.indexed(), &self.gone, staying, val)
+            || has_value_among(&self.added, &[], val)
     }
 
     /// The number of facts.
@@ -181,16 +196,16 @@ impl Instance {
         self.count(Key::Relation(rel))
     }
 
-    /// The fact of the relation that is the k-th of them, counted from 0, in the order of the facts. It costs as much as
-    /// [`Instance::count_of`].
+    /// The fact of the relation that is the k-th of them, counted from 0, in the order of the facts. It costs as much
+    /// as [`Instance::count_of`].
     pub fn nth_of(&self, rel: u32, k: usize) -> Option<&Fact>
         ensures { option_copied result ≡ slice_get (filter (λ f. f.rel == rel) self.now.facts) k }
     {
         self.nth(Key::Relation(rel), k)
     }
 
-    /// The number of facts of the relation with the value at the column, which is counted from 0. It costs a look at each
-    /// of them in the base, and at each fact that was added beside it.
+    /// The number of facts of the relation with the value at the column, which is counted from 0. It costs a look at
+    /// each of them in the base, and at each fact that was added beside it.
     pub fn with_count(&self, rel: u32, place: u32, val: Val) -> usize
         ensures { result ≡ length (filter (profiles.has_at rel place val) self.now.facts) }
     {
@@ -232,9 +247,9 @@ impl Instance {
         self.indexed()?.column_profile(val)
     }
 
-    /// An equal instance. It costs a reference, a mark for each fact of the base, and a copy of the facts that were added
-    /// beside it. Where the base is the instance's own, or the instance differs from it by more than 64 facts, it costs
-    /// what [`Instance::settled`] does.
+    /// An equal instance. It costs a reference, a mark for each fact of the base, and a copy of the facts that were
+    /// added beside it. Where the base is the instance's own, or the instance differs from it by more than 64 facts, it
+    /// costs what [`Instance::settled`] does.
     pub fn copy(&self) -> Result<Instance, Memory>
         ensures { IfOk result (λ i. i ≡ self.now) }
     {
@@ -270,8 +285,8 @@ impl Instance {
         })
     }
 
-    /// An equal instance that is settled: this one, at the cost of a reference, where its base is shared and has just its
-    /// facts; else a new one, at the cost of [`Instance::settled`].
+    /// An equal instance that is settled: this one, at the cost of a reference, where its base is shared and has just
+    /// its facts; else a new one, at the cost of [`Instance::settled`].
     pub fn share_settled(instance: &Rc<Instance>) -> Result<Rc<Instance>, Memory>
         ensures { IfOk result (λ i. i.value ≡ instance.now.value) }
     {
@@ -303,10 +318,11 @@ impl Instance {
         }
     }
 
-    /// The instance of the facts without nulls, in order, with the same limit. It costs what [`Instance::indexed`] does,
-    /// and a copy of each of these facts, with one hash for each, each of their values and each of their keys.
+    /// The instance of the facts without nulls, in order, with the same limit. It costs what [`Instance::indexed`]
+    /// does, and a copy of each of these facts, with one hash for each, each of their values and each of their keys.
     pub fn ground_part(&self) -> Result<Instance, Memory>
-        ensures { IfOk result (λ i. i ≡ record { facts = instances.ground_part self.now.facts; limit = self.now.limit }) }
+        ensures { IfOk result (λ i. i
+            ≡ record { facts = instances.ground_part self.now.facts; limit = self.now.limit }) }
     {
         let facts = self.indexed()?;
         ground_facts(self.alloc, facts.as_slice(), self.limit)
@@ -321,8 +337,10 @@ fn append(
     fact: Fact,
 ) -> Result<(), Memory>
     requires { length gone.old.items ≡ length (base_facts base.old) }
-    ensures ok { OnOk result (layered base.new gone.new.items added.new.items ≡ layered base.old gone.old.items added.old.items ++ fact ∷ []) }
-    ensures err { OnErr result (layered base.new gone.new.items added.new.items ≡ layered base.old gone.old.items added.old.items) }
+    ensures ok { OnOk result (layered base.new gone.new.items added.new.items
+        ≡ layered base.old gone.old.items added.old.items ++ fact ∷ []) }
+    ensures err { OnErr result (layered base.new gone.new.items added.new.items
+        ≡ layered base.old gone.old.items added.old.items) }
     ensures marked { length gone.new.items ≡ length (base_facts base.new) }
 {
     match base {

@@ -1,6 +1,7 @@
 //! The values of an instance by first occurrence, each fact's values by their numbers in this list, and the profiles of
 //! the values.
-ghost use Rattle.std.specs.Prelude.{◌≡◌, ◌++◌, ◌∷◌, ◌-◌, ◌<◌, ◌^◌, [], ℕ, IfOk, OnOk, OnErr, length, take, slice_get, option_map};
+ghost use Rattle.std.specs.Prelude.{◌≡◌, ◌++◌, ◌∷◌, ◌-◌, ◌<◌, ◌^◌, [], ℕ, IfOk, OnOk, OnErr, length, take, slice_get};
+ghost use Rattle.std.specs.Prelude.{option_map};
 ghost use Rattle.indexmap.specs.IndexSet.{insert_all};
 ghost use Rattle.eir_term.specs.Values.{val_eq};
 ghost use Rattle.eir_inst.specs.Numbers.{numbers_of};
@@ -45,7 +46,8 @@ impl Numbering {
             ≡ self.old.rows.items ++ numbers_of self.new.values.keys fact.now.args ∷ []) }
         ensures profiles { OnOk result ((n : ℕ) → slice_get self.new.profiles.items n
             ≡ option_map (grown fact.now.rel 0 (numbers_of self.new.values.keys fact.now.args) n)
-            (slice_get (self.old.profiles.items ++ blank (length self.new.values.keys - length self.old.profiles.items)) n)) }
+            (slice_get (self.old.profiles.items
+            ++ blank (length self.new.values.keys - length self.old.profiles.items)) n)) }
         ensures same_values { OnErr result (self.new.values.keys ≡ self.old.values.keys) }
         ensures same_rows { OnErr result (self.new.rows.items ≡ self.old.rows.items) }
         ensures same_profiles { OnErr result (self.new.profiles.items ≡ self.old.profiles.items) }
@@ -68,7 +70,8 @@ impl Numbering {
             ≡ self.old.rows.items ++ numbers_of self.new.values.keys fact.now.args ∷ []) }
         ensures profiles { OnOk result ((n : ℕ) → slice_get self.new.profiles.items n
             ≡ option_map (grown fact.now.rel 0 (numbers_of self.new.values.keys fact.now.args) n)
-            (slice_get (self.old.profiles.items ++ blank (length self.new.values.keys - length self.old.profiles.items)) n)) }
+            (slice_get (self.old.profiles.items
+            ++ blank (length self.new.values.keys - length self.old.profiles.items)) n)) }
         ensures kept_values { take (length self.old.values.keys) self.new.values.keys ≡ self.old.values.keys }
         ensures kept_rows { take (length self.old.rows.items) self.new.rows.items ≡ self.old.rows.items }
         ensures same_profiles { OnErr result (self.new.profiles.items ≡ self.old.profiles.items) }

@@ -40,7 +40,8 @@ impl Postings {
 
     /// Puts a place under a key, behind the others.
     fn add(&mut self, key: Key, place: usize) -> Result<(), Memory>
-        ensures ok { OnOk result ((k : Key) → listed self.new.lists k ≡ listed self.old.lists k ++ cond (key_eq k key) (place ∷ []) []) }
+        ensures ok { OnOk result ((k : Key)
+            → listed self.new.lists k ≡ listed self.old.lists k ++ cond (key_eq k key) (place ∷ []) []) }
         ensures err { OnErr result ((k : Key) → listed self.new.lists k ≡ listed self.old.lists k) }
     {
         if let Some(places) = self.lists.get_mut(&key) {
@@ -55,7 +56,8 @@ impl Postings {
     /// Takes the last place under a key off.
     fn drop_last(&mut self, key: Key)
         ensures { (k : Key) → listed self.new.lists k
-            ≡ cond (key_eq k key) (take (length (listed self.old.lists k) - 1) (listed self.old.lists k)) (listed self.old.lists k) }
+            ≡ cond (key_eq k key) (take (length (listed self.old.lists k) - 1) (listed self.old.lists k))
+            (listed self.old.lists k) }
     {
         if let Some(places) = self.lists.get_mut(&key) {
             places.pop();
@@ -71,7 +73,8 @@ impl Postings {
         place: usize,
     ) -> Result<(), Memory>
         requires { column + length vals.now < 2 ^ 32 }
-        ensures ok { OnOk result ((k : Key) → listed self.new.lists k ≡ listed self.old.lists k ++ in_columns place rel column vals.now k) }
+        ensures ok { OnOk result ((k : Key)
+            → listed self.new.lists k ≡ listed self.old.lists k ++ in_columns place rel column vals.now k) }
         ensures err { OnErr result ((k : Key) → listed self.new.lists k ≡ listed self.old.lists k) }
     {
         let Some((val, others)) = vals.split_first() else {
@@ -89,7 +92,8 @@ impl Postings {
     /// Takes the last place off under each key of the columns from `column` on, whose values these are.
     fn drop_columns(&mut self, rel: u32, column: u32, vals: &[Val], place: usize)
         requires { column + length vals.now < 2 ^ 32 }
-        ensures { (before : Key → List ℕ) → ((k : Key) → listed self.old.lists k ≡ before k ++ in_columns place rel column vals.now k)
+        ensures { (before : Key → List ℕ)
+            → ((k : Key) → listed self.old.lists k ≡ before k ++ in_columns place rel column vals.now k)
             → (k : Key) → listed self.new.lists k ≡ before k }
     {
         if let Some((val, others)) = vals.split_first() {
@@ -101,7 +105,8 @@ impl Postings {
     /// Puts the place of a fact under each of its keys.
     pub(crate) fn push(&mut self, fact: &Fact, place: usize) -> Result<(), Memory>
         requires { length fact.now.args < 2 ^ 32 }
-        ensures ok { OnOk result ((k : Key) → listed self.new.lists k ≡ listed self.old.lists k ++ in_fact place fact.now k) }
+        ensures ok { OnOk result ((k : Key)
+            → listed self.new.lists k ≡ listed self.old.lists k ++ in_fact place fact.now k) }
         ensures err { OnErr result ((k : Key) → listed self.new.lists k ≡ listed self.old.lists k) }
     {
         let key = Key::Relation(fact.rel);

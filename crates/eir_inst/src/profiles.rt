@@ -1,5 +1,6 @@
 //! The profiles of all values of an instance, by number.
-ghost use Rattle.std.specs.Prelude.{◌≡◌, ◌++◌, ◌∷◌, ◌+◌, ◌-◌, ◌<◌, ◌≤◌, ◌^◌, [], ℕ, IfOk, IfSome, OnOk, OnErr, length, slice_get, slice_set, slice_index_or, option_map};
+ghost use Rattle.std.specs.Prelude.{◌≡◌, ◌++◌, ◌∷◌, ◌+◌, ◌-◌, ◌<◌, ◌≤◌, ◌^◌, [], ℕ, IfOk, IfSome, OnOk, OnErr, length};
+ghost use Rattle.std.specs.Prelude.{slice_get, slice_set, slice_index_or, option_map};
 ghost use Rattle.eir_term.specs.Profiles.{with_mark};
 ghost use Rattle.eir_inst.specs.Marks.{undone};
 ghost use Rattle.eir_term.specs.Lists.{◌∈◌};
@@ -21,7 +22,8 @@ pub(crate) fn push_marks(
     requires narrow { length numbers.now < 2 ^ 32 }
     requires numbered { (n : ℕ) → n ∈ numbers.now → n < count }
     ensures ok { OnOk result ((n : ℕ) → slice_get profiles.new.items n
-        ≡ option_map (grown rel 0 numbers.now n) (slice_get (profiles.old.items ++ blank (count - length profiles.old.items)) n)) }
+        ≡ option_map (grown rel 0 numbers.now n) (slice_get (profiles.old.items
+        ++ blank (count - length profiles.old.items)) n)) }
     ensures err { OnErr result (profiles.new.items ≡ profiles.old.items) }
 {
     let known = profiles.len();
@@ -57,7 +59,8 @@ fn add_marks(
 ) -> Result<(), Memory>
     requires narrow { column + length numbers.now < 2 ^ 32 }
     requires numbered { (n : ℕ) → n ∈ numbers.now → n < length profiles.old }
-    ensures ok { OnOk result ((n : ℕ) → slice_get profiles.new n ≡ option_map (grown rel column numbers.now n) (slice_get profiles.old n)) }
+    ensures ok { OnOk result ((n : ℕ) → slice_get profiles.new n
+        ≡ option_map (grown rel column numbers.now n) (slice_get profiles.old n)) }
     ensures err { OnErr result (profiles.new ≡ profiles.old) }
 {
     let Some((number, others)) = numbers.split_first() else {
@@ -79,8 +82,10 @@ fn add_at(
     mark: (u32, u32),
 ) -> Result<Option<usize>, Memory>
     requires { number < length profiles.old }
-    ensures ok { OnOk result (profiles.new ≡ slice_set profiles.old number (with_mark mark (slice_index_or profiles.old number []))) }
-    ensures undone { IfOk result (λ put. undone put (slice_index_or profiles.new number []) ≡ slice_index_or profiles.old number []) }
+    ensures ok { OnOk result (profiles.new
+        ≡ slice_set profiles.old number (with_mark mark (slice_index_or profiles.old number []))) }
+    ensures undone { IfOk result (λ put. undone put (slice_index_or profiles.new number [])
+        ≡ slice_index_or profiles.old number []) }
     ensures within { IfOk result (λ put. IfSome put (λ at. at < length (slice_index_or profiles.new number []))) }
     ensures err { OnErr result (profiles.new ≡ profiles.old) }
 {

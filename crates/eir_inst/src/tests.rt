@@ -1,5 +1,5 @@
-//! Each call once with ample memory, and the refusals; and an instance with facts that are gone and added against the same
-//! facts put in afresh. A body that always wants memory would pass the check.
+//! Each call once with ample memory, and the refusals; and an instance with facts that are gone and added against the
+//! same facts put in afresh. A body that always wants memory would pass the check.
 use crate::{Indexed, InsertRefused, Instance, Missing};
 use eir_term::{Fact, Memory, Val};
 use std::alloc::Global;
@@ -51,7 +51,8 @@ fn shared(alloc: Global) -> Result<Instance, Fail> {
     Ok(first.copy()?)
 }
 
-/// The facts of the example by way of a copy: P(b9) is gone from what is shared, and the facts of Q were added beside it.
+/// The facts of the example by way of a copy: P(b9) is gone from what is shared, and the facts of Q were added beside
+/// it.
 fn changed(alloc: Global) -> Result<Instance, Fail> {
     let mut instance = shared(alloc)?;
     take(alloc, &mut instance, 9)?;
@@ -184,6 +185,22 @@ fn has_columns(instance: &Instance) -> bool {
         && has_with(instance, 3, 0, 3, 0)
 }
 
+/// Whether the values of the example are there, and no others.
+fn has_values(instance: &Instance) -> bool {
+    instance.has_value(Val::Const(1))
+        && instance.has_value(Val::Const(5))
+        && !instance.has_value(Val::Const(9))
+        && !instance.has_value(Val::Null(1))
+}
+
+#[test]
+fn tells_which_values_occur(rt: HostRuntime) -> Result<(), Fail> {
+    let settled = example(rt.alloc())?.settled()?;
+    assert!(rt; has_values(&settled));
+    assert!(rt; has_values(&changed(rt.alloc())?));
+    Ok(())
+}
+
 #[test]
 fn finds_by_column(rt: HostRuntime) -> Result<(), Fail> {
     assert!(rt; has_columns(&example(rt.alloc())?));
@@ -267,12 +284,22 @@ fn numbers_values_by_first_occurrence(rt: HostRuntime) -> Result<(), Fail> {
     Ok(())
 }
 
-/// Whether the relations of the example are listed.
+/// Whether the facts of the example are listed by relation, column and value.
+fn lists_columns(facts: &Indexed) -> bool {
+    let val = Val::Const(3);
+    facts.places_with(P, 0, val) == [2].as_slice()
+        && facts.places_with(Q, 0, val) == [3].as_slice()
+        && facts.places_with(Q, 1, val).is_empty()
+        && facts.places_with(Q, usize::MAX, val).is_empty()
+}
+
+/// Whether the relations of the example are listed, and its columns.
 fn lists_relations(facts: &Indexed) -> bool {
     facts.places_of(P) == [0, 1, 2].as_slice()
         && facts.places_of(Q) == [3, 4, 5].as_slice()
         && facts.count_of(Q) == 3
         && facts.as_slice().len() == 6
+        && lists_columns(facts)
 }
 
 #[test]

@@ -6,3 +6,4 @@ pub mod Dependencies
 pub mod Verdicts
 pub mod Replies
 pub mod Refusals
+pub mod Causes

@@ -1,11 +1,8 @@
 -- The texts of verdicts (this project's own).
---   examples_of xs                         == examples that are lent
 --   moves_text names h I                   == where a map sends the constants of an instance
 --   domain_text, fold_text, refuted_text, fits_text  == those of the four verdicts
 --   finding_text kind schema names xs f    == what a fit for the kind found
-use Rattle.std.specs.Prelude.{ℕ, List, [], ◌++◌, map, flat_map, length, slice_get, option_map, unwrap_or, codes}
-use Rattle.std.specs.declared.rc.Rc as rc
-use Rattle.std.specs.Global.{Global}
+use Rattle.std.specs.Prelude.{ℕ, List, [], ◌++◌, flat_map, length, slice_get, option_map, unwrap_or, codes}
 use Rattle.eir_term.specs.declared.val.Val.{Val}
 use Rattle.eir_term.specs.declared.val.Kind.{Kind}
 use Rattle.eir_term.specs.declared.fact.Fact.{Fact}
@@ -19,10 +16,6 @@ use Rattle.eir_print.specs.declared.fact.Nulls.TheVariants.{Named}
 use Rattle.eir_print.specs.Words.{kind_text, counted_line}
 use Rattle.eir_print.specs.Facts.{value_text}
 use Rattle.eir_print.specs.Dependencies.{mapping_text}
-
--- examples that are lent
-abbrev pub examples_of : List (rc.Rc Example Global) → List Example
-examples_of xs = map (λ x. x.value) xs
 
 -- the name of the example at a place, or nothing
 abbrev pub example_text : List Example → ℕ → List ℕ

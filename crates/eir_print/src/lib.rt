@@ -23,6 +23,8 @@ mod reduced;
 mod refusal;
 mod replies;
 mod reply;
+#[cfg(test)]
+mod tests;
 mod verdict;
 mod words;
 

@@ -5,6 +5,8 @@ ghost use Rattle.eir_print.specs.Words.{pair_line};
 ghost use Rattle.eir_print.specs.Refusals.{refusal_text};
 
 use crate::words::print_counted;
+use eir_edit::EditRefused;
+use eir_schema::DeclareRefused;
 use eir_term::{Memory, Text};
 
 /// Why a line is refused, in the order of the numbers that the texts begin with.
@@ -76,4 +78,50 @@ fn print_pair(word: &[u8], first: &Text, second: &Text, out: &mut Text) -> Resul
     out.push_all(b" ")?;
     out.push_all(second.bytes())?;
     out.push_all(b"\n")
+}
+
+impl From<Memory> for Refusal {
+    ghost use Rattle.std.specs.Prelude.{◌≡◌};
+    ghost use Rattle.eir_print.specs.declared.refusal.Refusal.TheVariants as refusal;
+
+    ghost from_gives = { λ _ e. e ≡ refusal.Memory };
+
+    fn from(_: Memory) -> Self {
+        Refusal::Memory
+    }
+}
+
+impl From<DeclareRefused> for Refusal {
+    ghost use Rattle.std.specs.Prelude.{◌≡◌};
+    ghost use Rattle.eir_print.specs.Causes.{refusal_of_declaration};
+
+    ghost from_gives = { λ refused e. e ≡ refusal_of_declaration refused };
+
+    fn from(refused: DeclareRefused) -> Self {
+        match refused {
+            DeclareRefused::Taken => Refusal::Taken,
+            DeclareRefused::Full(limit) => Refusal::Full(limit),
+            DeclareRefused::Memory => Refusal::Memory,
+        }
+    }
+}
+
+impl From<EditRefused> for Refusal {
+    ghost use Rattle.std.specs.Prelude.{◌≡◌};
+    ghost use Rattle.eir_print.specs.Causes.{refusal_of_edit};
+
+    ghost from_gives = { λ refused e. e ≡ refusal_of_edit refused };
+
+    fn from(refused: EditRefused) -> Self {
+        match refused {
+            EditRefused::Taken => Refusal::Taken,
+            EditRefused::NoExample => Refusal::Example,
+            EditRefused::There => Refusal::There,
+            EditRefused::Missing => Refusal::Missing,
+            EditRefused::Full(limit) => Refusal::Full(limit),
+            EditRefused::Nothing => Refusal::Nothing,
+            EditRefused::Foreign(mine, theirs) => Refusal::Foreign(mine, theirs),
+            EditRefused::Memory => Refusal::Memory,
+        }
+    }
 }

@@ -1,7 +1,7 @@
 //! The texts of replies.
 ghost use Rattle.std.specs.Prelude.{◌≡◌, ◌++◌, OnOk, OnErr};
 ghost use Rattle.eir_print.specs.Prefixes.{AppendsPrefix};
-ghost use Rattle.eir_print.specs.Verdicts.{examples_of};
+ghost use Rattle.eir_edit.specs.Pairs.{examples_of};
 ghost use Rattle.eir_print.specs.Replies.{at_text, cert_text, spent_at_text, spent_text, reply_text};
 
 use crate::chased::print_chased;

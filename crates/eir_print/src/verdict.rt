@@ -5,7 +5,8 @@ ghost use Rattle.eir_term.specs.Values.{is_const};
 ghost use Rattle.eir_term.specs.Maps.{image};
 ghost use Rattle.eir_verdict.specs.Findings.{finding_of};
 ghost use Rattle.eir_print.specs.Prefixes.{AppendsPrefix};
-ghost use Rattle.eir_print.specs.Verdicts.{examples_of, example_text, source_at, constant_text, moved_text, moves_text};
+ghost use Rattle.eir_edit.specs.Pairs.{examples_of};
+ghost use Rattle.eir_print.specs.Verdicts.{example_text, source_at, constant_text, moved_text, moves_text};
 ghost use Rattle.eir_print.specs.Verdicts.{domain_text, fold_text, refuted_text, fits_text, finding_text};
 
 use crate::fact::{Nulls, print_value};

@@ -1,13 +1,12 @@
 -- Laws of reading the arguments of a fact one after another.
-use Rattle.std.proofs.Common.{◌≡◌, ℕ, ◌+◌, ◌<◌, ◌≤◌, Bool, true, false, ◌||◌, List, [], ◌∷◌, ◌++◌, map, length, Option, Some, None, Bor, refl, sym, ◌∙◌, ap, arith, append-nil, append_assoc}
+use Rattle.std.proofs.Common.{◌≡◌, ℕ, Bool, true, false, ◌||◌, List, [], ◌∷◌, ◌++◌, Option, Some, None, Bor, refl, sym, ◌∙◌, ap, append-nil, append_assoc}
 use Rattle.std.specs.Prelude.{option_map, option_and_then}
 use Rattle.std.specs.List.{list_any}
-use Rattle.std.proofs.lemmas.List.{map-append}
 use Rattle.std.proofs.lemmas.List.Folds.{list_any-append}
 use Rattle.eir_script.specs.declared.arguments.Argument.{Argument as RustArgument}
 use Rattle.eir_script.specs.Grammar.{Argument}
-use Rattle.eir_script.specs.Reading.{Lexeme, lexemes, and_lexeme, read_by, arguments_of, argument_of, argument_name, is_labelled}
-use Rattle.eir_script.specs.Forms.{argument_in, arguments_first, arguments_left, bytes_left}
+use Rattle.eir_script.specs.Reading.{Lexeme, lexemes, and_lexeme, read_by, arguments_of, is_labelled}
+use Rattle.eir_script.specs.Forms.{argument_in, arguments_first, arguments_left}
 
 -- a function of lexemes by the first of them
 pub then-first : {X : Type 0} (f : List Lexeme → Option X) (l : Lexeme) (o : Option (List Lexeme)) → option_and_then f (and_lexeme l o) ≡ option_and_then (λ ls. f (l ∷ ls)) o

@@ -1,25 +1,23 @@
 -- The grammar's laws: a line is read as s exactly where it says s, and as blank exactly where it is blank.
 -- `reading-says`, `says-reading`, `reading-blank` and `blank-reading`, at the end, state this; what stands before them
 -- is, part by part, that lexemes that are read as something are those of its tokens, and the other way.
-use Rattle.std.proofs.Common.{◌≡◌, ◌⊎◌, inl, inr, ℕ, ◌≤◌, ◌<◌, ◌^◌, Bool, true, false, cond, ◌==◌, ◌&&◌, ◌||◌, List, [], ◌∷◌, ◌++◌, map, length, Option, Some, None, refl, sym, ◌∙◌, ap, ap₂, subst, arith}
-use Rattle.std.specs.Prelude.{nat_le, nat_lt, find, option_map, option_and_then, codes, decimal, IsTrue}
+use Rattle.std.proofs.Common.{◌≡◌, ◌⊎◌, inl, inr, ℕ, ◌≤◌, ◌<◌, ◌^◌, true, false, cond, ◌==◌, ◌&&◌, List, [], ◌∷◌, ◌++◌, map, length, Option, Some, None, refl, sym, ◌∙◌, ap, ap₂, subst, arith}
+use Rattle.std.specs.Prelude.{nat_le, nat_lt, find, option_map, option_and_then, codes, decimal}
 use Rattle.std.specs.List.{AllByRecursion, list_any}
 use Rattle.std.specs.Str.{bytes_eq}
 use Rattle.std.specs.Str.Parse.{digits_value}
-use Rattle.std.proofs.lemmas.Bool.{cases_Bool, or_cases, or_parts, false≢true, and_parts, and_from, le-leb, leb-true, lt-ltb, ltb-true, eqb-true}
+use Rattle.std.proofs.lemmas.Bool.{cases_Bool, or_cases, false≢true, and_parts, le-leb, leb-true, lt-ltb, ltb-true, eqb-true}
 use Rattle.std.proofs.lemmas.Fmt.{decimal_is_IsNumeral}
-use Rattle.std.proofs.lemmas.List.{map-append}
 use Rattle.std.proofs.lemmas.Slice.Eq.{bytes_eq-Decides}
 use Rattle.eir_term.specs.declared.val.Side.{Side}
 use Rattle.eir_term.specs.declared.val.Side.TheVariants.{Source, Target}
 use Rattle.eir_term.specs.declared.val.Kind.{Kind}
 use Rattle.eir_term.specs.declared.val.Kind.TheVariants.{Glav, Gav}
-use Rattle.eir_script.specs.declared.token.Sign.{Sign}
 use Rattle.eir_script.specs.declared.token.Sign.TheVariants.{OpenBracket, CloseBracket, Comma, Ampersand, Dot, Arrow}
 use Rattle.eir_script.specs.declared.keyword.Keyword.{Keyword}
 use Rattle.eir_script.specs.declared.keyword.Keyword.TheVariants as keyword
-use Rattle.eir_script.specs.Grammar.{Token, word, name, labelled_null, sign, is_gap, AreGaps, Argument, constant, labelled, WrittenFact, Said, declare, new, put, cut, drop, undo, take, kind, budget, fit, tries, reduce, chase, cert, table, exchange, side_word, kind_word, argument_token, listed, applied, fact_tokens, tokens_of, IsFilled, IsWhole, IsSpelled, Says, IsBlank}
-use Rattle.eir_script.specs.Reading.{Lexeme, run, label, mark, lexemes, read_by, alone, one_word, two_words, argument_of, arguments_of, written, fact_of, is_labelled, argument_name, declared_as, declaration_of, example_and_fact, kind_of, number_of, budget_of, keywords, keyword_of, said_after, said_by, Reading, bad, blank, says, is_blank, says_or_bad, reading_of_any, reading}
+use Rattle.eir_script.specs.Grammar.{name, sign, is_gap, AreGaps, Argument, constant, labelled, WrittenFact, Said, declare, new, put, cut, drop, undo, take, kind, budget, fit, tries, reduce, chase, cert, table, exchange, side_word, kind_word, argument_token, listed, applied, fact_tokens, tokens_of, IsFilled, IsWhole, IsSpelled, Says, IsBlank}
+use Rattle.eir_script.specs.Reading.{Lexeme, run, label, mark, lexemes, read_by, alone, one_word, two_words, argument_of, arguments_of, written, fact_of, is_labelled, argument_name, declared_as, declaration_of, example_and_fact, kind_of, number_of, budget_of, keywords, keyword_of, said_after, said_by, bad, blank, says, is_blank, says_or_bad, reading_of_any, reading}
 use Rattle.eir_script.proofs.LexemeLaws.{lexeme_of, lexemes-gaps, lexemes-spelled, Spells-lexemes, cond-cases, map-some, then-some}
 
 -- the lexemes of the tokens of what is said

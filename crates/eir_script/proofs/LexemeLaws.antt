@@ -1,13 +1,12 @@
 -- The lexemes of the bytes are those that are spelled: a list of tokens spells the bytes exactly where the bytes have
 -- the lexemes of these tokens (`lexemes-spelled` and `Spells-lexemes`, at the end of the two parts).
 use Rattle.std.proofs.Common.{◌≡◌, ◌⊎◌, inl, inr, ℕ, ◌≤◌, ◌<◌, Bool, true, false, cond, not, ◌==◌, List, [], ◌∷◌, ◌++◌, map, length, Option, Some, None, refl, sym, ◌∙◌, ap, subst, arith}
-use Rattle.std.specs.Prelude.{nat_le, IsTrue, option_map, option_and_then, codes}
-use Rattle.std.specs.List.{AllByRecursion}
+use Rattle.std.specs.Prelude.{nat_le, option_map, option_and_then, codes}
 use Rattle.std.proofs.lemmas.Bool.{cases_Bool, or_cases, false≢true, and_parts, le-leb, leb-true, eqb-true}
 use Rattle.std.proofs.lemmas.List.{append_assoc, append-nil}
 use Rattle.eir_script.specs.declared.token.Sign.{Sign}
 use Rattle.eir_script.specs.declared.token.Sign.TheVariants.{OpenBracket, CloseBracket, Comma, Ampersand, Dot, Arrow}
-use Rattle.eir_script.specs.Grammar.{Token, word, name, labelled_null, sign, is_gap, is_word_byte, is_word_start, AreWordBytes, IsRun, IsWord, IsToken, EndsBefore, StartsApart, AreGaps, Spells, token_bytes, sign_bytes}
+use Rattle.eir_script.specs.Grammar.{Token, word, name, labelled_null, sign, is_gap, is_word_byte, is_word_start, AreWordBytes, IsRun, IsToken, EndsBefore, StartsApart, AreGaps, Spells, token_bytes, sign_bytes}
 use Rattle.eir_script.specs.Reading.{Lexeme, run, label, mark, Begun, nothing, in_run, asked, in_label, dashed, and_lexeme, run_ended, sign_at, first_byte, lexemes_from, lexemes}
 
 -- the lexeme of a token: a word and a name are spelled alike

@@ -1,16 +1,15 @@
 -- Laws of putting the names of a line into the table.
-use Rattle.std.proofs.Common.{◌≡◌, ℕ, Bool, true, List, [], ◌∷◌, ◌++◌, map, Result, Ok, Err, OnErr, append_assoc, append-nil, inl, inr, refl, sym, ◌∙◌, ap, ap₂, subst}
+use Rattle.std.proofs.Common.{◌≡◌, ℕ, List, [], ◌∷◌, ◌++◌, map, Result, Ok, Err, OnErr, append_assoc, append-nil, inl, inr, refl, sym, ◌∙◌, ap, subst}
 use Rattle.std.specs.List.{list_any}
 use Rattle.std.specs.Str.{bytes_eq}
 use Rattle.std.proofs.lemmas.Bool.{cases_Bool}
 use Rattle.std.proofs.lemmas.List.{map-append}
 use Rattle.std.proofs.lemmas.List.Folds.{list_any-append}
-use Rattle.eir_term.specs.declared.val.Val.{Val}
 use Rattle.eir_term.specs.declared.val.Val.TheVariants.{Const, Null}
 use Rattle.eir_term.specs.Lists.{◌∈◌}
 use Rattle.eir_term.proofs.ListLaws.{∈-map}
 use Rattle.eir_term.proofs.HomLaws.{map-agree}
-use Rattle.eir_schema.specs.Names.{with_name, number_of}
+use Rattle.eir_schema.specs.Names.{with_name}
 use Rattle.eir_schema.proofs.NameLaws.{IsNamed, IsNamed-with_name, number_of-kept}
 use Rattle.eir_script.specs.Grammar.{Argument, constant, labelled}
 use Rattle.eir_script.specs.Reading.{argument_name}

@@ -1,6 +1,6 @@
 -- Laws of reading a line.
-use Rattle.std.proofs.Common.{◌≡◌, ◌<◌, ◌≤◌, ◌⊎◌, inl, inr, ℕ, Bool, true, false, List, map, length, Option, Some, None, Result, Ok, Err, IfOk, refl, sym, ◌∙◌, ap}
-use Rattle.std.specs.Prelude.{nat_le, IsSome}
+use Rattle.std.proofs.Common.{◌≡◌, ◌<◌, ◌≤◌, ◌⊎◌, inl, inr, ℕ, true, false, List, map, length, Option, Some, None, Result, IfOk, refl, sym, ◌∙◌, ap}
+use Rattle.std.specs.Prelude.{IsSome}
 use Rattle.std.specs.List.{list_any}
 use Rattle.std.proofs.lemmas.Bool.{cases_Bool, false≢true, lt-leb, le-leb}
 use Rattle.std.proofs.lemmas.Result.{IfOk-weaker}

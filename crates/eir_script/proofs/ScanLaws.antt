@@ -1,15 +1,13 @@
 -- Laws of taking tokens from the front of a line's bytes.
-use Rattle.std.proofs.Common.{◌≡◌, ℕ, ◌+◌, ◌-◌, ◌≤◌, ◌<◌, Bool, true, false, ◌==◌, ◌||◌, ◌⊎◌, inl, inr, List, [], ◌∷◌, ◌++◌, length, take, drop, get_or, Option, Some, None, Bor, refl, sym, ◌∙◌, ap, subst, arith, length-append, append-nil}
-use Rattle.std.specs.Prelude.{option_map, option_and_then}
+use Rattle.std.proofs.Common.{◌≡◌, ℕ, ◌+◌, ◌-◌, ◌≤◌, ◌<◌, Bool, true, false, ◌==◌, ◌||◌, inl, inr, List, [], ◌∷◌, ◌++◌, length, take, drop, get_or, Some, None, refl, sym, ◌∙◌, ap, subst, arith, length-append, append-nil}
 use Rattle.std.specs.List.{AllByRecursion}
 use Rattle.std.proofs.lemmas.List.{take_more, take_rest, drop_more, take-append-drop}
 use Rattle.std.proofs.lemmas.Bool.{or_cases, false≢true, eqb-true}
 use Rattle.eir_script.specs.declared.token.Sign.{Sign}
-use Rattle.eir_script.specs.declared.token.Sign.TheVariants.{Arrow}
 use Rattle.eir_script.specs.declared.token.Scanned.{Scanned}
 use Rattle.eir_script.specs.declared.token.Scanned.TheVariants.{Next, End, Unknown}
 use Rattle.eir_script.specs.Grammar.{is_gap, is_word_byte, is_word_start, AreGaps, AreWordBytes, IsRun, StartsApart}
-use Rattle.eir_script.specs.Reading.{Lexeme, run, label, mark, and_lexeme, lexemes, sign_at, is_blank}
+use Rattle.eir_script.specs.Reading.{run, label, mark, and_lexeme, lexemes, sign_at, is_blank}
 use Rattle.eir_script.specs.Forms.{SkipsGaps, StartsUngapped, StartsWord, IsWordFirst, IsSignByte, IsNext, IsShorter}
 use Rattle.eir_script.proofs.LexemeLaws.{start-byte, lexemes-gaps, lexemes-run, lexemes-label, run_ended-short, run_ended-long}
 

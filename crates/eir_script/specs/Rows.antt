@@ -1,7 +1,6 @@
 -- The definitions computed on worked lines.
 use Rattle.std.specs.Prelude.{◌≡◌, [], ◌∷◌, ◌++◌, refl, codes}
 use Rattle.std.specs.Fmt.{digits}
-use Rattle.eir_term.specs.declared.val.Kind.TheVariants.{Gav}
 use Rattle.eir_term.specs.declared.val.Side.TheVariants.{Source}
 use Rattle.eir_script.specs.Lines.{lines_of}
 use Rattle.eir_script.specs.Grammar as said

@@ -55,6 +55,7 @@ fn argument_of(token: Token<'_>) -> Option<Argument<'_>>
 }
 
 /// What stands behind an argument: the bytes behind a comma, or nothing behind the closing bracket that ends the list.
+#[inline(always)]
 fn after_argument(bytes: &[u8]) -> Option<Option<&[u8]>>
     ensures left { IsLeft bytes.now result }
     ensures shorter { IfSome result (λ left. bytes_left left < length bytes.now) }
@@ -74,6 +75,7 @@ fn after_argument(bytes: &[u8]) -> Option<Option<&[u8]>>
 
 /// The first argument of the bytes behind an opening bracket or a comma. The bytes behind the next comma go with it,
 /// or nothing where the list ends there.
+#[inline(always)]
 pub fn next_argument(bytes: &[u8]) -> Option<(Argument<'_>, Option<&[u8]>)>
     ensures read { read_by arguments_of bytes.now ≡ option_and_then arguments_first result }
     ensures shorter { IfSome result (λ p. bytes_left p.1 < length bytes.now) }

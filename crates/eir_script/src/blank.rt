@@ -12,6 +12,7 @@ fn is_gap(byte: u8) -> bool
 }
 
 /// What stands behind the gaps that come first.
+#[inline(always)]
 pub fn after_gaps(bytes: &[u8]) -> &[u8]
     ensures { SkipsGaps bytes.now result.now }
 {

@@ -1,9 +1,12 @@
 //! The form of a line.
+//!
+//! A form that has parts is made by a function of its own, so that a line clears no room for the parts of other forms.
 ghost use Rattle.std.specs.Prelude.{◌≡◌, ℕ, List, Some, IfSome, IsSome, option_and_then};
 ghost use Rattle.std.specs.List.{list_any};
 ghost use Rattle.eir_script.specs.Forms.{IsAtom, fact_in, said_in, written_in};
 ghost use Rattle.eir_script.specs.Grammar.{Said, WrittenFact};
-ghost use Rattle.eir_script.specs.Reading.{alone, declaration_of, example_and_fact, fact_of, read_by, said_after, said_by};
+ghost use Rattle.eir_script.specs.Reading.{alone, declaration_of, example_and_fact, fact_of, read_by};
+ghost use Rattle.eir_script.specs.Reading.{said_after, said_by};
 
 use crate::arguments::list_shape;
 use crate::keyword::{Keyword, keyword_of};
@@ -63,6 +66,7 @@ fn atom_of(bytes: &[u8]) -> Option<Atom<'_>>
 }
 
 /// A declaration for this side.
+#[inline(never)]
 fn declaration(side: Side, bytes: &[u8]) -> Option<Form<'_>>
     ensures read { option_and_then said_in result ≡ read_by (declaration_of side) bytes.now }
     ensures whole { IfSome result (λ f. IsSome (said_in f)) }
@@ -86,12 +90,108 @@ fn example_and_fact(bytes: &[u8]) -> Option<(&[u8], Atom<'_>)>
 }
 
 /// This form, where nothing follows.
+#[inline(never)]
 fn alone<'a>(form: Form<'a>, bytes: &[u8]) -> Option<Form<'a>>
     requires { IsSome (said_in form) }
-    ensures read { (s : Said) → said_in form.entry ≡ Some s → option_and_then said_in result ≡ read_by (alone s) bytes.now }
+    ensures read { (s : Said) → said_in form.entry ≡ Some s →
+        option_and_then said_in result ≡ read_by (alone s) bytes.now }
     ensures whole { IfSome result (λ f. IsSome (said_in f)) }
 {
     if is_end(bytes) { Some(form) } else { None }
+}
+
+/// The form that begins with `new`, by the bytes behind this word.
+#[inline(never)]
+fn new_form(bytes: &[u8]) -> Option<Form<'_>>
+    ensures read { option_and_then said_in result ≡ read_by (said_after Keyword.New) bytes.now }
+    ensures whole { IfSome result (λ f. IsSome (said_in f)) }
+{
+    Some(Form::New(one_word(bytes)?))
+}
+
+/// The form that begins with `put`.
+#[inline(never)]
+fn put_form(bytes: &[u8]) -> Option<Form<'_>>
+    ensures read { option_and_then said_in result ≡ read_by (said_after Keyword.Put) bytes.now }
+    ensures whole { IfSome result (λ f. IsSome (said_in f)) }
+{
+    let (example, atom) = example_and_fact(bytes)?;
+    Some(Form::Put(example, atom))
+}
+
+/// The form that begins with `cut`.
+#[inline(never)]
+fn cut_form(bytes: &[u8]) -> Option<Form<'_>>
+    ensures read { option_and_then said_in result ≡ read_by (said_after Keyword.Cut) bytes.now }
+    ensures whole { IfSome result (λ f. IsSome (said_in f)) }
+{
+    let (example, atom) = example_and_fact(bytes)?;
+    Some(Form::Cut(example, atom))
+}
+
+/// The form that begins with `drop`.
+#[inline(never)]
+fn drop_form(bytes: &[u8]) -> Option<Form<'_>>
+    ensures read { option_and_then said_in result ≡ read_by (said_after Keyword.Drop) bytes.now }
+    ensures whole { IfSome result (λ f. IsSome (said_in f)) }
+{
+    Some(Form::Drop(one_word(bytes)?))
+}
+
+/// The form that begins with `take`.
+#[inline(never)]
+fn take_form(bytes: &[u8]) -> Option<Form<'_>>
+    ensures read { option_and_then said_in result ≡ read_by (said_after Keyword.Take) bytes.now }
+    ensures whole { IfSome result (λ f. IsSome (said_in f)) }
+{
+    let (designer, example) = two_words(bytes)?;
+    Some(Form::Take(designer, example))
+}
+
+/// The form that begins with `kind`.
+#[inline(never)]
+fn kind_form(bytes: &[u8]) -> Option<Form<'_>>
+    ensures read { option_and_then said_in result ≡ read_by (said_after Keyword.Kind) bytes.now }
+    ensures whole { IfSome result (λ f. IsSome (said_in f)) }
+{
+    Some(Form::Kind(kind_of(one_word(bytes)?)?))
+}
+
+/// The form that begins with `budget`.
+#[inline(never)]
+fn budget_form(bytes: &[u8]) -> Option<Form<'_>>
+    ensures read { option_and_then said_in result ≡ read_by (said_after Keyword.Budget) bytes.now }
+    ensures whole { IfSome result (λ f. IsSome (said_in f)) }
+{
+    Some(Form::Budget(budget_of(one_word(bytes)?)?))
+}
+
+/// The form that begins with `chase`.
+#[inline(never)]
+fn chase_form(bytes: &[u8]) -> Option<Form<'_>>
+    ensures read { option_and_then said_in result ≡ read_by (said_after Keyword.Chase) bytes.now }
+    ensures whole { IfSome result (λ f. IsSome (said_in f)) }
+{
+    Some(Form::Chase(one_word(bytes)?))
+}
+
+/// The form that begins with `cert`.
+#[inline(never)]
+fn cert_form(bytes: &[u8]) -> Option<Form<'_>>
+    ensures read { option_and_then said_in result ≡ read_by (said_after Keyword.Cert) bytes.now }
+    ensures whole { IfSome result (λ f. IsSome (said_in f)) }
+{
+    Some(Form::Cert(one_word(bytes)?))
+}
+
+/// The form that begins with `table`.
+#[inline(never)]
+fn table_form(bytes: &[u8]) -> Option<Form<'_>>
+    ensures read { option_and_then said_in result ≡ read_by (said_after Keyword.Table) bytes.now }
+    ensures whole { IfSome result (λ f. IsSome (said_in f)) }
+{
+    let (relation, file) = two_words(bytes)?;
+    Some(Form::Table(relation, file))
 }
 
 /// The form of a line with this keyword, by the bytes behind it.
@@ -102,32 +202,20 @@ fn form_after(keyword: Keyword, bytes: &[u8]) -> Option<Form<'_>>
     match keyword {
         Keyword::Source => declaration(Side::Source, bytes),
         Keyword::Target => declaration(Side::Target, bytes),
-        Keyword::New => Some(Form::New(one_word(bytes)?)),
-        Keyword::Put => {
-            let (example, atom) = example_and_fact(bytes)?;
-            Some(Form::Put(example, atom))
-        }
-        Keyword::Cut => {
-            let (example, atom) = example_and_fact(bytes)?;
-            Some(Form::Cut(example, atom))
-        }
-        Keyword::Drop => Some(Form::Drop(one_word(bytes)?)),
+        Keyword::New => new_form(bytes),
+        Keyword::Put => put_form(bytes),
+        Keyword::Cut => cut_form(bytes),
+        Keyword::Drop => drop_form(bytes),
         Keyword::Undo => alone(Form::Undo, bytes),
-        Keyword::Take => {
-            let (designer, example) = two_words(bytes)?;
-            Some(Form::Take(designer, example))
-        }
-        Keyword::Kind => Some(Form::Kind(kind_of(one_word(bytes)?)?)),
-        Keyword::Budget => Some(Form::Budget(budget_of(one_word(bytes)?)?)),
+        Keyword::Take => take_form(bytes),
+        Keyword::Kind => kind_form(bytes),
+        Keyword::Budget => budget_form(bytes),
         Keyword::Fit => alone(Form::Fit, bytes),
         Keyword::Tries => alone(Form::Tries, bytes),
         Keyword::Reduce => alone(Form::Reduce, bytes),
-        Keyword::Chase => Some(Form::Chase(one_word(bytes)?)),
-        Keyword::Cert => Some(Form::Cert(one_word(bytes)?)),
-        Keyword::Table => {
-            let (relation, file) = two_words(bytes)?;
-            Some(Form::Table(relation, file))
-        }
+        Keyword::Chase => chase_form(bytes),
+        Keyword::Cert => cert_form(bytes),
+        Keyword::Table => table_form(bytes),
         Keyword::Exchange => alone(Form::Exchange, bytes),
     }
 }

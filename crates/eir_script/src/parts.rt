@@ -17,6 +17,7 @@ pub fn is_end(bytes: &[u8]) -> bool
 }
 
 /// The word or name that comes first, and what stands behind it.
+#[inline(always)]
 pub fn first_word(bytes: &[u8]) -> Option<(&[u8], &[u8])>
     ensures { IsFirstRun bytes.now result }
 {

@@ -1,17 +1,20 @@
 //! Lines of a script, read as the commands that they are.
+//!
+//! A command that owns something is made by a function of its own, so that a line clears no room for what other commands
+//! own.
 ghost use Rattle.std.specs.Prelude.{◌≡◌, ◌↔◌, ◌⊎◌, ◌++◌, ℕ, List, map, None, Some, IfOk, OnErr, IsErrOf, IsSome};
 ghost use Rattle.eir_schema.specs.Names.{with_name};
 ghost use Rattle.eir_script.specs.Forms.{argument_in, said_in, written_in};
 ghost use Rattle.eir_script.specs.Grammar.{Argument as WrittenArgument, IsBlank, Said, Says, WrittenFact};
 ghost use Rattle.eir_script.specs.Naming.{command_read, named, names_in, names_read, numbered, raw_fact, value_of};
-ghost use Rattle.eir_script.specs.Reading.{argument_name, arguments_of, bad, blank, read_by, reading};
+ghost use Rattle.eir_script.specs.Reading.{argument_name, arguments_of, bad, blank, read_by, reading, said_by};
 
 use crate::arguments::{Argument, next_argument};
 use crate::blank::is_blank;
 use crate::command::{Columns, Command, RawFact, Values};
 use crate::form::{Atom, Form, form_of};
 use eir_schema::Names;
-use eir_term::{Memory, Text, Val};
+use eir_term::{Memory, Side, Text, Val};
 use std::alloc::{AllocError, AllocFailed, Global};
 
 /// The most bytes of a line.
@@ -73,7 +76,8 @@ fn value_in(argument: Argument<'_>, names: &mut Names) -> Result<Val, Memory>
 
 /// The values of the arguments of an atom, whose names are numbered in turn.
 fn values_of(alloc: Global, atom: Atom<'_>, names: &mut Names) -> Result<Values, LineRefused>
-    ensures read { IfOk result (λ vs. (all : List WrittenArgument) × (read_by arguments_of atom.entry.arguments.now ≡ Some all)
+    ensures read { IfOk result (λ vs. (all : List WrittenArgument)
+        × (read_by arguments_of atom.entry.arguments.now ≡ Some all)
         × (names.new ≡ named names.old (map argument_name all)) × (vs ≡ map (value_of names.new) all)) }
     ensures bad { IsErrOf result LineRefused.Bad → read_by arguments_of atom.entry.arguments.now ≡ None }
     ensures grown { OnErr result ((more : List (List ℕ)) × (names.new ≡ names.old ++ more)) }
@@ -90,7 +94,8 @@ fn values_of(alloc: Global, atom: Atom<'_>, names: &mut Names) -> Result<Values,
 
 /// The names of the arguments of an atom.
 fn columns_of(alloc: Global, atom: Atom<'_>) -> Result<Columns, LineRefused>
-    ensures read { IfOk result (λ cs. (all : List WrittenArgument) × (read_by arguments_of atom.entry.arguments.now ≡ Some all)
+    ensures read { IfOk result (λ cs. (all : List WrittenArgument)
+        × (read_by arguments_of atom.entry.arguments.now ≡ Some all)
         × (cs ≡ map argument_name all)) }
     ensures bad { IsErrOf result LineRefused.Bad → read_by arguments_of atom.entry.arguments.now ≡ None }
 {
@@ -116,6 +121,115 @@ fn fact_of(alloc: Global, atom: Atom<'_>, names: &mut Names) -> Result<RawFact, 
     Ok(RawFact { relation, args })
 }
 
+/// The declaration of an atom for this side.
+#[inline(never)]
+fn declare_command(alloc: Global, side: Side, atom: Atom<'_>) -> Result<Command, LineRefused>
+    ensures read { IfOk result (λ c. (all : List WrittenArgument)
+        × (read_by arguments_of atom.entry.arguments.now ≡ Some all)
+        × (c ≡ Command.Declare side atom.entry.relation.now (map argument_name all))) }
+    ensures bad { IsErrOf result LineRefused.Bad → read_by arguments_of atom.entry.arguments.now ≡ None }
+{
+    let relation = Text::make(alloc, atom.relation)?;
+    let columns = columns_of(alloc, atom)?;
+    Ok(Command::Declare(side, relation, columns))
+}
+
+/// The command that puts a fact, whose names are numbered.
+#[inline(never)]
+fn put_command(
+    alloc: Global,
+    example: &[u8],
+    atom: Atom<'_>,
+    names: &mut Names,
+) -> Result<Command, LineRefused>
+    ensures read { IfOk result (λ c. (w : WrittenFact) × (written_in atom.entry ≡ Some w)
+        × (names.new ≡ named names.old (map argument_name w.arguments))
+        × (c ≡ Command.Put example.now (raw_fact names.new w))) }
+    ensures bad { IsErrOf result LineRefused.Bad → written_in atom.entry ≡ None }
+    ensures grown { OnErr result ((more : List (List ℕ)) × (names.new ≡ names.old ++ more)) }
+{
+    let example = Text::make(alloc, example)?;
+    let fact = fact_of(alloc, atom, names)?;
+    Ok(Command::Put(example, fact))
+}
+
+/// The command that cuts a fact, whose names are numbered.
+#[inline(never)]
+fn cut_command(
+    alloc: Global,
+    example: &[u8],
+    atom: Atom<'_>,
+    names: &mut Names,
+) -> Result<Command, LineRefused>
+    ensures read { IfOk result (λ c. (w : WrittenFact) × (written_in atom.entry ≡ Some w)
+        × (names.new ≡ named names.old (map argument_name w.arguments))
+        × (c ≡ Command.Cut example.now (raw_fact names.new w))) }
+    ensures bad { IsErrOf result LineRefused.Bad → written_in atom.entry ≡ None }
+    ensures grown { OnErr result ((more : List (List ℕ)) × (names.new ≡ names.old ++ more)) }
+{
+    let example = Text::make(alloc, example)?;
+    let fact = fact_of(alloc, atom, names)?;
+    Ok(Command::Cut(example, fact))
+}
+
+/// The command that makes an example.
+#[inline(never)]
+fn new_command(alloc: Global, example: &[u8]) -> Result<Command, LineRefused>
+    ensures made { IfOk result (λ c. c ≡ Command.New example.now) }
+    ensures well_formed { IsErrOf result LineRefused.Bad → ⊥ }
+{
+    Ok(Command::New(Text::make(alloc, example)?))
+}
+
+/// The command that drops an example.
+#[inline(never)]
+fn drop_command(alloc: Global, example: &[u8]) -> Result<Command, LineRefused>
+    ensures made { IfOk result (λ c. c ≡ Command.Drop example.now) }
+    ensures well_formed { IsErrOf result LineRefused.Bad → ⊥ }
+{
+    Ok(Command::Drop(Text::make(alloc, example)?))
+}
+
+/// The command that takes an example from a designer.
+#[inline(never)]
+fn take_command(alloc: Global, designer: &[u8], example: &[u8]) -> Result<Command, LineRefused>
+    ensures made { IfOk result (λ c. c ≡ Command.Take designer.now example.now) }
+    ensures well_formed { IsErrOf result LineRefused.Bad → ⊥ }
+{
+    let designer = Text::make(alloc, designer)?;
+    let example = Text::make(alloc, example)?;
+    Ok(Command::Take(designer, example))
+}
+
+/// The command that chases an example.
+#[inline(never)]
+fn chase_command(alloc: Global, example: &[u8]) -> Result<Command, LineRefused>
+    ensures made { IfOk result (λ c. c ≡ Command.Chase example.now) }
+    ensures well_formed { IsErrOf result LineRefused.Bad → ⊥ }
+{
+    Ok(Command::Chase(Text::make(alloc, example)?))
+}
+
+/// The command that asks for a certificate.
+#[inline(never)]
+fn cert_command(alloc: Global, file: &[u8]) -> Result<Command, LineRefused>
+    ensures made { IfOk result (λ c. c ≡ Command.Cert file.now) }
+    ensures well_formed { IsErrOf result LineRefused.Bad → ⊥ }
+{
+    Ok(Command::Cert(Text::make(alloc, file)?))
+}
+
+/// The command that reads a table.
+#[inline(never)]
+fn table_command(alloc: Global, relation: &[u8], file: &[u8]) -> Result<Command, LineRefused>
+    ensures made { IfOk result (λ c. c ≡ Command.Table relation.now file.now) }
+    ensures well_formed { IsErrOf result LineRefused.Bad → ⊥ }
+{
+    let relation = Text::make(alloc, relation)?;
+    let file = Text::make(alloc, file)?;
+    Ok(Command::Table(relation, file))
+}
+
 /// The command of this form.
 fn command_of(alloc: Global, form: Form<'_>, names: &mut Names) -> Result<Command, LineRefused>
     requires { IsSome (said_in form) }
@@ -125,42 +239,37 @@ fn command_of(alloc: Global, form: Form<'_>, names: &mut Names) -> Result<Comman
     ensures grown { OnErr result ((more : List (List ℕ)) × (names.new ≡ names.old ++ more)) }
 {
     match form {
-        Form::Declare(side, atom) => {
-            let relation = Text::make(alloc, atom.relation)?;
-            let columns = columns_of(alloc, atom)?;
-            Ok(Command::Declare(side, relation, columns))
-        }
-        Form::New(example) => Ok(Command::New(Text::make(alloc, example)?)),
-        Form::Put(example, atom) => {
-            let example = Text::make(alloc, example)?;
-            let fact = fact_of(alloc, atom, names)?;
-            Ok(Command::Put(example, fact))
-        }
-        Form::Cut(example, atom) => {
-            let example = Text::make(alloc, example)?;
-            let fact = fact_of(alloc, atom, names)?;
-            Ok(Command::Cut(example, fact))
-        }
-        Form::Drop(example) => Ok(Command::Drop(Text::make(alloc, example)?)),
+        Form::Declare(side, atom) => declare_command(alloc, side, atom),
+        Form::New(example) => new_command(alloc, example),
+        Form::Put(example, atom) => put_command(alloc, example, atom, names),
+        Form::Cut(example, atom) => cut_command(alloc, example, atom, names),
+        Form::Drop(example) => drop_command(alloc, example),
         Form::Undo => Ok(Command::Undo),
-        Form::Take(designer, example) => {
-            let designer = Text::make(alloc, designer)?;
-            let example = Text::make(alloc, example)?;
-            Ok(Command::Take(designer, example))
-        }
+        Form::Take(designer, example) => take_command(alloc, designer, example),
         Form::Kind(kind) => Ok(Command::Kind(kind)),
         Form::Budget(tries) => Ok(Command::Budget(tries)),
         Form::Fit => Ok(Command::Fit),
         Form::Tries => Ok(Command::Tries),
         Form::Reduce => Ok(Command::Reduce),
-        Form::Chase(example) => Ok(Command::Chase(Text::make(alloc, example)?)),
-        Form::Cert(file) => Ok(Command::Cert(Text::make(alloc, file)?)),
-        Form::Table(relation, file) => {
-            let relation = Text::make(alloc, relation)?;
-            let file = Text::make(alloc, file)?;
-            Ok(Command::Table(relation, file))
-        }
+        Form::Chase(example) => chase_command(alloc, example),
+        Form::Cert(file) => cert_command(alloc, file),
+        Form::Table(relation, file) => table_command(alloc, relation, file),
         Form::Exchange => Ok(Command::Exchange),
+    }
+}
+
+/// The command of a line that is not blank, whose names are numbered.
+#[inline(never)]
+fn read_command(alloc: Global, line: &[u8], names: &mut Names) -> Result<Command, LineRefused>
+    ensures read { IfOk result (λ c. (s : Said) × (read_by said_by line.now ≡ Some s)
+        × (names.new ≡ named names.old (names_in s)) × (c ≡ numbered names.new s)) }
+    ensures bad { (result ≡ Err LineRefused.Bad) ↔ (read_by said_by line.now ≡ None) }
+    ensures unnamed { result ≡ Err LineRefused.Bad → names.new ≡ names.old }
+    ensures grown { OnErr result ((more : List (List ℕ)) × (names.new ≡ names.old ++ more)) }
+{
+    match form_of(line) {
+        Some(form) => command_of(alloc, form, names),
+        None => Err(LineRefused::Bad),
     }
 }
 
@@ -194,8 +303,5 @@ pub fn read_line(alloc: Global, line: &[u8], names: &mut Names) -> Result<Comman
     if is_blank(line) {
         return Ok(Command::Blank);
     }
-    match form_of(line) {
-        Some(form) => command_of(alloc, form, names),
-        None => Err(LineRefused::Bad),
-    }
+    read_command(alloc, line, names)
 }

@@ -1,4 +1,7 @@
 //! Tokens of a line, taken one after another from its front.
+//!
+//! What finds a token stands inline where the token is asked for: to hand it back through memory costs as much as to
+//! find it.
 ghost use Rattle.std.specs.Prelude.{◌≡◌, ◌∷◌};
 ghost use Rattle.eir_script.specs.Forms.{IsNext, IsSignByte, IsShorter, StartsUngapped, StartsWord};
 ghost use Rattle.eir_script.specs.Reading.{sign_at};
@@ -53,6 +56,7 @@ fn sign_of(byte: u8) -> Option<Sign>
 }
 
 /// The run that comes first in bytes of which the first may begin one.
+#[inline(always)]
 fn scan_run(bytes: &[u8]) -> Scanned<'_>
     requires { StartsWord bytes.now }
     ensures next { IsNext bytes.now result }
@@ -65,6 +69,7 @@ fn scan_run(bytes: &[u8]) -> Scanned<'_>
 }
 
 /// The null whose question mark comes before bytes of which the first may begin a word.
+#[inline(always)]
 fn scan_name(bytes: &[u8]) -> Scanned<'_>
     requires { StartsWord bytes.now }
     ensures next { IsNext (63 ∷ bytes.now) result }
@@ -77,6 +82,7 @@ fn scan_name(bytes: &[u8]) -> Scanned<'_>
 }
 
 /// The null whose question mark comes before these bytes.
+#[inline(always)]
 fn scan_label(bytes: &[u8]) -> Scanned<'_>
     ensures next { IsNext (63 ∷ bytes.now) result }
     ensures shorter { IsShorter (63 ∷ bytes.now) result }
@@ -123,6 +129,7 @@ fn scan_sign(byte: u8, rest: &[u8]) -> Scanned<'_>
 }
 
 /// The token with which the bytes begin.
+#[inline(always)]
 fn first_token(bytes: &[u8]) -> Scanned<'_>
     requires { StartsUngapped bytes.now }
     ensures next { IsNext bytes.now result }
@@ -145,6 +152,7 @@ fn first_token(bytes: &[u8]) -> Scanned<'_>
 }
 
 /// The first token of a line's bytes.
+#[inline(always)]
 pub fn next_token(bytes: &[u8]) -> Scanned<'_>
     ensures next { IsNext bytes.now result }
     ensures shorter { IsShorter bytes.now result }

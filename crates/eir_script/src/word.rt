@@ -10,7 +10,8 @@ const WORD_LIMIT: usize = 64;
 fn is_word_byte(byte: u8) -> bool
     ensures { result ≡ is_word_byte byte }
 {
-    matches!(byte, b'A'..=b'Z' | b'a'..=b'z' | b'0'..=b'9' | b'_' | b'.')
+    // Most bytes of a script are small letters.
+    matches!(byte, b'a'..=b'z') || matches!(byte, b'A'..=b'Z' | b'0'..=b'9' | b'_' | b'.')
 }
 
 /// Whether the byte may begin a word.
@@ -21,6 +22,7 @@ pub fn is_word_start(byte: u8) -> bool
 }
 
 /// The bytes of words that come first, and what stands behind them.
+#[inline(always)]
 fn split_word_bytes(bytes: &[u8]) -> (&[u8], &[u8])
     ensures joined { bytes.now ≡ result.0.now ++ result.1.now }
     ensures run { AreWordBytes result.0.now }
@@ -35,6 +37,7 @@ fn split_word_bytes(bytes: &[u8]) -> (&[u8], &[u8])
 }
 
 /// The bytes of words that come first, which are at most as many as a word may have, and what stands behind them.
+#[inline(always)]
 pub fn split_word(bytes: &[u8]) -> Option<(&[u8], &[u8])>
     ensures { IsWordFirst bytes.now result }
 {

@@ -26,6 +26,10 @@ fn plain_data(rt: HostRuntime) -> Result<(), Fail> {
     let mut text = Text::make(alloc, b"Emp")?;
     text.push_all(b"(ann,hr)")?;
     assert!(rt; text.bytes() == b"Emp(ann,hr)".as_slice());
+    text.push_all(b" -> exists y1 . Works(ann,y1)")?;
+    assert!(rt; text.bytes() == b"Emp(ann,hr) -> exists y1 . Works(ann,y1)".as_slice());
+    text.clear();
+    assert!(rt; text.bytes().is_empty());
     Ok(())
 }
 

@@ -92,16 +92,6 @@ occurrences-at K i l = step K i l ∙ ap (λ k. args_at K i ++ occurrences (drop
 pub occurrences-end : (K : List Fact) (i : ℕ) → length K ≤ i → occurrences (drop i K) ≡ []
 occurrences-end K i l = ap occurrences (drop_all i K l)
 
--- what occurs from a place on occurs
-pub occurs-drop : (p : Val → Bool) (K : List Fact) (n : ℕ) → list_any p (occurrences (drop n K)) ≡ true → list_any p (occurrences K) ≡ true
-occurs-drop p K zero t = t
-occurs-drop p [] (suc n) t = t
-occurs-drop p (f ∷ K) (suc n) t = list_any-append p f.args (occurrences K) ∙ rw (occurs-drop p K n t) (or_true (list_any p f.args))
-  where
-    or_true : (b : Bool) → (b || true) ≡ true
-    or_true true = refl
-    or_true false = refl
-
 -- a constant occurs where it is among the constants
 pub const-occurs : (n : ℕ) (I : List Fact) → list_any (val_eq (Const n)) (consts I) ≡ list_any (val_eq (Const n)) (occurrences I)
 const-occurs n I = by (list_any (val_eq (Const n)) (consts I)) (list_any (val_eq (Const n)) (occurrences I)) refl refl
@@ -125,19 +115,6 @@ module _ (I : List Fact) (v : Val) (n : ℕ) (b : Bool) (is : v ≡ Const n) (o 
   foreign-occurs f = subst (λ u. None ≡ first_among I (u ∷ [])) (sym is) (let s : list_any (val_eq (Const n)) (consts I) ≡ true = const-occurs n I ∙ sym o ∙ f in rw s refl)
 
 -- ---- loops over places and values
-
-module _ (p : Val → Bool) (K : List Fact) (i from : ℕ) (old : list_any p (occurrences (drop i K)) ≡ list_any p (occurrences (drop from K))) where
-  -- where the fact at the place has one, one occurs
-  pub occurs-here : (b : Bool) → i < length K → b ≡ list_any p (args_at K i) → b ≡ true → true ≡ list_any p (occurrences (drop from K))
-  occurs-here b l e t = sym (sym old ∙ ap (λ vs. list_any p vs) (occurrences-at K i l) ∙ list_any-append p (args_at K i) (occurrences (drop (i + 1) K)) ∙ ap (λ c. c || list_any p (occurrences (drop (i + 1) K))) (sym e ∙ t))
-
-  -- where it has none, those behind it decide
-  pub occurs-later : (b : Bool) → i < length K → b ≡ list_any p (args_at K i) → b ≡ false → list_any p (occurrences (drop (i + 1) K)) ≡ list_any p (occurrences (drop from K))
-  occurs-later b l e t = sym (ap (λ vs. list_any p vs) (occurrences-at K i l) ∙ list_any-append p (args_at K i) (occurrences (drop (i + 1) K)) ∙ ap (λ c. c || list_any p (occurrences (drop (i + 1) K))) (sym e ∙ t)) ∙ old
-
-  -- past the end none occurs
-  pub occurs-end : length K ≤ i → false ≡ list_any p (occurrences (drop from K))
-  occurs-end l = sym (ap (λ vs. list_any p vs) (occurrences-end K i l)) ∙ old
 
 module _ (I J : List Fact) (i : ℕ) (whole : Option Val) (old : first_among I (occurrences (drop i J)) ≡ whole) (o : Option ℕ) (b : Bool) (some : b ≡ is_some o) (l : i < length J) where
   -- the first of the fact at the place is the first of all

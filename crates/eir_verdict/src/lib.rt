@@ -8,7 +8,7 @@
 //!
 //! # What a contract sees
 //!
-//! An example is seen as that of `eir_edit`; `pair_of` of `specs/Pairs` is its two instances alone. `first_foreign` and
+//! An example is seen as that of `eir_edit`; `pair_of` of its `specs/Pairs` is its two instances alone. `first_foreign` and
 //! `has_fold` of `eir_term`'s `specs/Verdicts` are what the tests answer, `foldneed` of `specs/Search` is what they may
 //! cost. A `FoldTest` is seen as a `Folding` of `specs/Foldings`: the facts that it tests, and the tries that it may
 //! still make, which are none once it is decided. A `Verdict` is seen as a `Finding` of `eir_term` by `finding_of` of
@@ -18,6 +18,8 @@
 mod fold;
 mod fold_test;
 mod foreign;
+#[cfg(test)]
+mod tests;
 mod verdict;
 
 pub use fold::folds;

@@ -16,12 +16,11 @@ use Rattle.eir_edit.specs.Edits.{versioned, last_version}
 use Rattle.eir_edit.specs.Histories.{History}
 use Rattle.eir_edit.specs.State.{Act, Desk, Work, refusal, done, draws, after as desk_after, drawn_after, unless, work_after}
 use Rattle.eir_edit.proofs.CauseLaws.{first_cause-append, first_cause-before, first_cause-front}
-use Rattle.eirene.specs.declared.refusal.Refusal.{Refusal}
-use Rattle.eirene.specs.declared.refusal.Refusal.TheVariants.{For, Memory}
+use Rattle.eir_print.specs.declared.refusal.Refusal.{Refusal}
+use Rattle.eir_print.specs.Causes.{IsCaused, refusal_of, refusal_of_edit, refusal_of_declaration}
 use Rattle.eirene.specs.Workspaces.{Workspace}
-use Rattle.eirene.specs.Replies.{Request, act, answer, accepted, refused, refused_by, after}
-use Rattle.eirene.specs.Findings.{cause_of, refused_for}
-use Rattle.eirene.specs.Refusals.{IsCaused, IsRefused, refusal_of_edit, refusal_of_declaration}
+use Rattle.eirene.specs.Replies.{Request, act, answer, done as accepted, refused, refused_by, after}
+use Rattle.eirene.specs.Answers.{IsRefused}
 
 -- the workspace with this work
 abbrev pub with_work : Workspace → Work → Workspace
@@ -43,14 +42,14 @@ drawn-more w v n d e k = k ∙ ap (λ (m : ℕ). with_work w (record { drawn = m
 -- ---- an act that a test refuses
 
 pub act-refused : (w : Workspace) (a : Act) (e : Refusal) → IsCaused e (refusal a w.work.desk) → IsRefused e (Some (act a)) w
-act-refused w a Memory h = tt
-act-refused w a (For c) h = by (refusal a w.work.desk) refl
+act-refused w a e (inl m) = inl m
+act-refused w a e (inr h) = inr (by (refusal a w.work.desk) refl h)
   where
-    by : (r : Option Cause) → refusal a w.work.desk ≡ r → IsRefused (For c) (Some (act a)) w
-    by None e = absurd (h.1 e)
-    by (Some k) e = (
-      ap refused_by e ∙ ap refused_for (sym e ∙ sym h.0),
-      ap (λ (r : Option Cause). with_work w (record { drawn = unless r w.work.drawn (cond (draws a) (suc w.work.drawn) w.work.drawn); desk = unless r w.work.desk (done w.work.drawn a w.work.desk) })) e,
+    by : (r : Option Cause) → refusal a w.work.desk ≡ r → option_map refusal_of r ≡ Some e → (answer (Some (act a)) w ≡ refused e) × (after (Some (act a)) w ≡ w)
+    by None k h = absurd (none-some e h)
+    by (Some c) k h = (
+      ap refused_by k ∙ ap refused (same_Some (refusal_of c) e h),
+      ap (λ (r : Option Cause). with_work w (record { drawn = unless r w.work.drawn (cond (draws a) (suc w.work.drawn) w.work.drawn); desk = unless r w.work.desk (done w.work.drawn a w.work.desk) })) k,
     )
 
 -- ---- the version that is never drawn
@@ -66,14 +65,14 @@ versioned-spare n (t ∷ ts) l = elim (cases_Bool t.0) [ inl s ↦ rw s refl | i
 -- ---- refusals of the crates below
 
 pub edit-caused : (e : EditRefused) (cause : Option Cause) → told e ≡ cause → IsCaused (refusal_of_edit e) cause
-edit-caused editing.Taken cause h = (h, λ k. none-some _ (sym k ∙ sym h))
-edit-caused editing.NoExample cause h = (h, λ k. none-some _ (sym k ∙ sym h))
-edit-caused editing.There cause h = (h, λ k. none-some _ (sym k ∙ sym h))
-edit-caused editing.Missing cause h = (h, λ k. none-some _ (sym k ∙ sym h))
-edit-caused (editing.Full n) cause h = (h, λ k. none-some _ (sym k ∙ sym h))
-edit-caused editing.Nothing cause h = (h, λ k. none-some _ (sym k ∙ sym h))
-edit-caused (editing.Foreign mine theirs) cause h = tt
-edit-caused editing.Memory cause h = tt
+edit-caused editing.Taken cause h = inr (ap (option_map refusal_of) (sym h))
+edit-caused editing.NoExample cause h = inr (ap (option_map refusal_of) (sym h))
+edit-caused editing.There cause h = inr (ap (option_map refusal_of) (sym h))
+edit-caused editing.Missing cause h = inr (ap (option_map refusal_of) (sym h))
+edit-caused (editing.Full n) cause h = inr (ap (option_map refusal_of) (sym h))
+edit-caused editing.Nothing cause h = inr (ap (option_map refusal_of) (sym h))
+edit-caused (editing.Foreign mine theirs) cause h = inr (ap (option_map refusal_of) (sym h))
+edit-caused editing.Memory cause h = inl refl
 
 -- ---- tests of a schema, as tests of an act
 
@@ -82,9 +81,9 @@ declared-first [] = refl
 declared-first (t ∷ ts) = elim (cases_Bool t.0) [ inl s ↦ rw s refl | inr s ↦ rw s (declared-first ts) ]
 
 pub declaration-caused : (e : DeclareRefused) (r : Option DeclareRefused) → schema.told e ≡ r → IsCaused (refusal_of_declaration e) (option_map declared_cause r)
-declaration-caused declaring.Taken r h = (ap (option_map declared_cause) h, λ k. none-some _ (sym k ∙ sym (ap (option_map declared_cause) h)))
-declaration-caused (declaring.Full n) r h = (ap (option_map declared_cause) h, λ k. none-some _ (sym k ∙ sym (ap (option_map declared_cause) h)))
-declaration-caused declaring.Memory r h = tt
+declaration-caused declaring.Taken r h = inr (ap (λ x. option_map refusal_of (option_map declared_cause x)) (sym h))
+declaration-caused (declaring.Full n) r h = inr (ap (λ x. option_map refusal_of (option_map declared_cause x)) (sym h))
+declaration-caused declaring.Memory r h = inl refl
 
 -- ---- a relation that is found has 1 to 16 columns
 

@@ -17,7 +17,8 @@ use Rattle.eir_edit.specs.State as state
 use Rattle.eir_edit.specs.State.{Act, Desk, refusal, done, unless, after as desk_after, fact_tests, fact_of, relation_of}
 use Rattle.eir_edit.proofs.CauseLaws.{NoneHolds, NoneHolds-from_none, first_cause-append, first_cause-front}
 use Rattle.eir_edit.proofs.GoodLaws.{present as good_present, IsGoodHistory-edited, IsGoodHistory-undone, IsGoodList-add, IsGoodList-put, IsGoodList-cut, IsGoodList-drop}
-use Rattle.eirene.specs.Workspaces.{Workspace, empty_workspace, pair_of, present}
+use Rattle.eir_edit.specs.Pairs.{pair_of}
+use Rattle.eirene.specs.Workspaces.{Workspace, empty_workspace, present}
 use Rattle.eirene.specs.Replies.{Request, act, fit, after, next, next_by, request_of, with_names}
 use Rattle.eirene.specs.Scripts.{workspace_after}
 

@@ -40,6 +40,11 @@ pub on_err : {T E : Type 0} (P Q : Type 0) (r : Result T E) → (P → Q) → On
 on_err P Q (Ok v) f h = h
 on_err P Q (Err e) f h = f h
 
+-- what holds anyway holds of an Ok
+pub if_ok : {T E : Type 0} (P : Type 0) (r : Result T E) → P → OnOk r P
+if_ok P (Ok v) p = p
+if_ok P (Err e) p = tt
+
 -- what holds anyway holds of an Err
 pub if_err : {T E : Type 0} (P : Type 0) (r : Result T E) → P → OnErr r P
 if_err P (Ok v) p = tt

@@ -7,9 +7,6 @@ pub mod Promise
 pub mod Outcomes
 pub mod Rows
 pub mod Statuses
-pub mod Constants
-pub mod Findings
-pub mod Lent
-pub mod Refusals
+pub mod Answers
 pub mod Steps
 pub mod Versions

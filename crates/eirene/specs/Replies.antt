@@ -1,12 +1,11 @@
 -- What a line is answered, as data (this project's own).
---   Request            == what `edit` serves: a declaration, an edit, an undo, or the question for a mapping
+--   Request            == what `edit` serves: a declaration, an edit, an undo, a kind, or the question for a mapping
 --   given f            == a fact as a line gives it
 --   request_of c       == what a command asks, or nothing where `edit` does not serve it
---   Reply              == done, refused, or what the fit finds
---   reply_to line w    == the reply to a line; a blank line has none
+--   Answer             == done, refused, or what the fit finds
+--   reply_to line w    == the answer to a line; a blank line has none
 --   next line w        == the workspace after a line
 use Rattle.std.specs.Prelude.{ℕ, List, Option, Some, None}
-use Rattle.eir_term.specs.declared.val.Kind.TheVariants.{Glav}
 use Rattle.eir_term.specs.Verdicts.{Finding, verdict}
 use Rattle.eir_script.specs.declared.command.Command.{Command}
 use Rattle.eir_script.specs.declared.command.Command.TheVariants as command
@@ -14,8 +13,11 @@ use Rattle.eir_script.specs.declared.command.RawFact.{RawFact}
 use Rattle.eir_script.specs.Reading.{Reading, reading}
 use Rattle.eir_script.specs.Naming.{named, names_read, command_read}
 use Rattle.eir_edit.specs.Causes.{Cause}
-use Rattle.eir_edit.specs.State.{Act, Given, declare, add, put, cut, drop, undo_last, refusal, work_after}
-use Rattle.eirene.specs.Workspaces.{Workspace, present}
+use Rattle.eir_edit.specs.State.{Act, Given, declare, add, put, cut, drop, undo_last, set_kind, refusal, work_after}
+use Rattle.eir_print.specs.declared.refusal.Refusal.{Refusal}
+use Rattle.eir_print.specs.declared.refusal.Refusal.TheVariants.{Line}
+use Rattle.eir_print.specs.Causes.{refusal_of}
+use Rattle.eirene.specs.Workspaces.{Workspace, kind_of, present}
 
 -- an act on the desk, or the question for a mapping
 pub data Request : Type 0 where
@@ -34,26 +36,27 @@ request_of (command.Put e f) = Some (act (put e (given f)))
 request_of (command.Cut e f) = Some (act (cut e (given f)))
 request_of (command.Drop e) = Some (act (drop e))
 request_of command.Undo = Some (act undo_last)
+request_of (command.Kind k) = Some (act (set_kind k))
 request_of command.Fit = Some fit
 request_of other = None
 
--- done, not a line that is served, refused for a cause, or what the fit finds
-pub data Reply : Type 0 where
-  accepted : Reply
-  unread : Reply
-  refused : Cause → Reply
-  found : Finding → Reply
+-- done, refused, or what the fit finds
+pub data Answer : Type 0 where
+  done : Answer
+  refused : Refusal → Answer
+  found : Finding → Answer
 
 -- refused for the cause, or done where there is none
-abbrev pub refused_by : Option Cause → Reply
-refused_by None = accepted
-refused_by (Some c) = refused c
+abbrev pub refused_by : Option Cause → Answer
+refused_by None = done
+refused_by (Some c) = refused (refusal_of c)
 
--- the answer to a request: a fit gets the verdict on the present examples
-abbrev pub answer : Option Request → Workspace → Reply
-answer None w = unread
+-- the answer to a request: a line that is not served is refused as no line; a fit gets the verdict for the kind on the
+-- present examples
+abbrev pub answer : Option Request → Workspace → Answer
+answer None w = refused Line
 answer (Some (act a)) w = refused_by (refusal a w.work.desk)
-answer (Some fit) w = found (verdict Glav (present w))
+answer (Some fit) w = found (verdict (kind_of w) (present w))
 
 -- the workspace after a request; a refused one leaves it
 abbrev pub after : Option Request → Workspace → Workspace
@@ -65,9 +68,9 @@ after (Some fit) w = w
 abbrev pub with_names : Reading → Workspace → Workspace
 with_names r w = record w { names = named w.names (names_read r) }
 
--- the reply to a command: none to a blank line; a line that is not in the grammar is no command
-abbrev pub reply_by : Option Command → Workspace → Option Reply
-reply_by None w = Some unread
+-- the answer to a command: none to a blank line; a line that is not in the grammar is no command
+abbrev pub reply_by : Option Command → Workspace → Option Answer
+reply_by None w = Some (refused Line)
 reply_by (Some command.Blank) w = None
 reply_by (Some c) w = Some (answer (request_of c) w)
 
@@ -76,11 +79,11 @@ abbrev pub next_by : Option Command → Workspace → Workspace
 next_by None w = w
 next_by (Some c) w = after (request_of c) w
 
--- the reply to a line: its names get numbers, and its command is answered
-abbrev pub reply_read : Reading → Workspace → Option Reply
+-- the answer to a line: its names get numbers, and its command is answered
+abbrev pub reply_read : Reading → Workspace → Option Answer
 reply_read r w = let named_so = with_names r w in reply_by (command_read named_so.names r) named_so
 
-abbrev pub reply_to : List ℕ → Workspace → Option Reply
+abbrev pub reply_to : List ℕ → Workspace → Option Answer
 reply_to line w = reply_read (reading line) w
 
 -- the workspace after a line; the names of a line that is refused are kept

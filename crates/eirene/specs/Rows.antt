@@ -44,3 +44,9 @@ missing_target = refl
 refusals : output_of (codes "source Emp(name,dept)\nnew e1\nput e1 Emq(ann,hr)\nput e1 Emp(ann)\nput e1 Emp(?x,hr)\nput e2 Emp(ann,hr)\nput e1 Emp(ann,hr)\nput e1 Emp(ann,hr)\ncut e1 Emp(bob,hr)\nnew e1\nput e1\ntries\nundo\nundo\nundo\n")
     ≡ codes "ok\nok\nrefused 3 relation\nrefused 4 arity\nrefused 5 null\nrefused 6 example\nok\nrefused 7 there\nrefused 8 missing\nrefused 2 taken\nrefused 1 line\nrefused 1 line\nok\nok\nrefused 10 nothing\n"
 refusals = refl
+
+-- a null that does not fold is a fault of GAV alone, and one that folds onto a fact beside it is none
+folds : output_of (codes "source R(a)\ntarget T(a,b)\nnew e1\nput e1 R(ann)\nput e1 T(ann,?n)\nkind gav\nfit\nput e1 T(ann,ann)\nfit\n")
+    ≡ codes "ok\nok\nok\nok\nok\nok\nfold e1\nok\nfits gav 1\nR(x1) -> T(x1,x1)\n"
+unfolding digits
+folds = refl

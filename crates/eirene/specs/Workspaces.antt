@@ -1,11 +1,12 @@
 -- The state of a run of `edit` (this project's own).
---   Workspace        == the table of names, the number of versions drawn, and the desk: schema, examples, undo list
+--   Workspace        == the table of names, the number of versions drawn, and the desk: schema, examples, undo list, kind
 --   empty_workspace  == where a script begins
---   pair_of x        == the example without its name and version
+--   kind_of w        == the kind of mapping that a fit asks for: GLAV until a line sets it
 --   present w        == the present examples
 use Rattle.std.specs.Prelude.{ℕ, List, [], map}
+use Rattle.eir_term.specs.declared.val.Kind.{Kind}
 use Rattle.eir_term.specs.Fitting.{DataExample}
-use Rattle.eir_edit.specs.Histories.{Example}
+use Rattle.eir_edit.specs.Pairs.{pair_of}
 use Rattle.eir_edit.specs.State.{Work, Desk, new_desk}
 
 -- the budget where a script begins; no line that is served asks for it
@@ -21,9 +22,9 @@ pub record Workspace : Type 0 where
 abbrev pub empty_workspace : Workspace
 empty_workspace = record { names = []; work = record { drawn = 0; desk = new_desk first_budget } }
 
--- the example without its name and version
-abbrev pub pair_of : Example → DataExample
-pair_of x = record { source = x.source; target = x.target }
+-- the kind of mapping that a fit asks for
+abbrev pub kind_of : Workspace → Kind
+kind_of w = w.work.desk.kind
 
 -- the present examples of a desk
 abbrev pub examples_on : Desk → List DataExample

@@ -1,32 +1,29 @@
-//! The program `eirene`: it reads lines that declare two schemas and edit data examples, and prints the most
-//! general GLAV mapping for which every target is a universal solution of its source, or shows why none is.
+//! The program `eirene`: it reads lines that declare two schemas and edit data examples, and prints the most general
+//! GLAV or GAV mapping for which every target is a universal solution of its source, or shows why none is.
 //!
-//! `top` has the one call, `run`; every other module holds one concept behind a contract of its own. Lines are read
-//! by `eir_script`, schemas and names are kept by `eir_schema`, examples with their undo list by `eir_edit`,
-//! mappings by `eir_dep`. `main` makes the real streams, calls `run`, prints the text of its status, and has nothing
-//! else.
+//! `top` has the one call, `run`. Lines are read by `eir_script`, schemas and names are kept by `eir_schema`, examples
+//! with their undo list by `eir_edit`; faults are found by `eir_verdict`, refutations by `eir_ext`, mappings are made by
+//! `eir_canon`, and texts by `eir_print`. What is here is the state of a run (`workspace`), the order of a verdict's
+//! tests (`verdict`), and the input and the output, line by line. `main` makes the real streams, calls `run`, prints the
+//! text of its status, and has nothing else.
 //!
 //! # What a contract sees
 //!
 //! `run` speaks of the bytes that its source and its sink tell, in the words of `specs/Promise` and
 //! `specs/Outcomes`: all that is written for an input is `output_of` of its bytes (`specs/Scripts`), a fold of
-//! `reply_to` and `next` over the lines (`specs/Replies`); a `fit` is answered by `verdict` of `eir_term` on the
-//! present examples. The texts stand in `specs/Texts`, apart from the code that prints them.
+//! `reply_to` and `next` over the lines (`specs/Replies`); a `fit` is answered by `verdict` of `eir_term`, for the kind
+//! that the lines before it asked for, on the present examples. The texts are those of `eir_print`, put together in
+//! `specs/Texts`.
 #![tactic(auto)]
 
-mod canonical;
-mod data_example;
 mod input;
 mod outbox;
-mod print;
-mod refusal;
 mod reply;
 mod script;
 mod status;
 #[cfg(test)]
 mod tests;
 mod top;
-mod values;
 mod verdict;
 mod workspace;
 

@@ -1,20 +1,21 @@
 //! Replies that are made and not yet written.
-ghost use Rattle.std.specs.Prelude.{◌≡◌, ◌≤◌, ◌++◌, [], List, ℕ, OnOk, OnErr};
+ghost use Rattle.std.specs.Prelude.{◌≡◌, ◌≤◌, ◌++◌, [], List, ℕ, OnOk, OnErr, IfOk};
 ghost use Rattle.std.specs.Io.KnownBytes.{Appends};
 ghost use Rattle.eir_io.specs.Causes.{HasStopCause};
 ghost use Rattle.eirene.specs.Outcomes.{AppendsPrefix, AppendsBut};
 
 use eir_io::{Sink, Stop};
+use eir_term::{Memory, Text};
 use std::alloc::Global;
 use std::marker::Model;
 
-/// The bytes that may be pending before they are written.
+/// The most bytes that wait to be written.
 const ROOM: usize = 65_536;
 
-/// The bytes of replies that are made and not yet written.
+/// The texts of replies that are made and not yet written. A reply is printed behind those that wait.
 #[derive(Drop)]
 pub struct Outbox {
-    bytes: Vec<u8>,
+    pub text: Text,
 }
 
 impl Model for Outbox {
@@ -22,7 +23,7 @@ impl Model for Outbox {
 
     ghost Value = { List ℕ };
 
-    ghost view = { λ o. o.bytes.items };
+    ghost view = { λ o. o.text };
 }
 
 /// Writes all of a text, in as many calls as the sink wants.
@@ -41,12 +42,12 @@ fn write_all<K: Sink>(text: &[u8], out: &mut K) -> Result<(), Stop>
 
 impl Outbox {
     /// Nothing is pending.
-    pub fn new(alloc: Global) -> Outbox
-        ensures { result ≡ [] }
+    pub fn new(alloc: Global) -> Result<Outbox, Memory>
+        ensures { IfOk result (λ o. o ≡ []) }
     {
-        Outbox {
-            bytes: Vec::new(alloc),
-        }
+        Ok(Outbox {
+            text: Text::make(alloc, b"")?,
+        })
     }
 
     /// Writes what is pending.
@@ -55,21 +56,20 @@ impl Outbox {
         ensures err { OnErr result (AppendsPrefix (K.written out.old) (K.written out.new) self.old) }
         ensures cause { HasStopCause (K.faults out.old) (K.faults out.new) result }
     {
-        write_all(&self.bytes, out)?;
-        self.bytes.clear();
+        write_all(self.text.bytes(), out)?;
+        self.text.clear();
         Ok(())
     }
 
-    /// Adds a text. What is pending is written first where there is no room for both.
-    pub fn add<K: Sink>(&mut self, text: &[u8], out: &mut K) -> Result<(), Stop>
-        ensures ok { OnOk result (AppendsBut (K.written out.old) (K.written out.new) self.new (self.old ++ text.now)) }
-        ensures err { OnErr result (AppendsPrefix (K.written out.old) (K.written out.new) (self.old ++ text.now)) }
+    /// Writes what is pending, where it is more than may wait.
+    pub fn settle<K: Sink>(&mut self, out: &mut K) -> Result<(), Stop>
+        ensures ok { OnOk result (AppendsBut (K.written out.old) (K.written out.new) self.new self.old) }
+        ensures err { OnErr result (AppendsPrefix (K.written out.old) (K.written out.new) self.old) }
         ensures cause { HasStopCause (K.faults out.old) (K.faults out.new) result }
     {
-        if self.bytes.len() + text.len() > ROOM {
+        if self.text.bytes().len() > ROOM {
             self.flush(out)?;
         }
-        self.bytes.extend_from_slice(text)?;
         Ok(())
     }
 }

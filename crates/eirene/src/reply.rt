@@ -1,35 +1,22 @@
-//! Replies, and their texts in the outbox.
-ghost use Rattle.std.specs.Prelude.{◌≡◌, ◌++◌, List, ℕ, Some, IfOk, OnOk, OnErr};
+//! The texts of what lines are answered, in the outbox.
+ghost use Rattle.std.specs.Prelude.{◌≡◌, ◌++◌, List, ℕ, Some, OnOk, OnErr};
 ghost use Rattle.eir_io.specs.Causes.{HasStopCause};
-ghost use Rattle.eir_edit.specs.Causes.{full};
+ghost use Rattle.eir_print.specs.declared.refusal.Refusal.TheVariants as cause;
+ghost use Rattle.eir_print.specs.Refusals.{refusal_text};
+ghost use Rattle.eirene.specs.Workspaces.{kind_of};
+ghost use Rattle.eirene.specs.Replies.{Answer};
+ghost use Rattle.eirene.specs.Answers.{IsReply};
 ghost use Rattle.eirene.specs.Outcomes.{AppendsPrefix, AppendsBut};
-ghost use Rattle.eirene.specs.Findings.{cause_line, finding_of, told};
-ghost use Rattle.eirene.specs.Texts.{finding_text, refused_text, reply_text};
+ghost use Rattle.eirene.specs.Texts.{reply_text};
 
 use crate::outbox::Outbox;
-use crate::print::{print_full, print_verdict};
-use crate::refusal::Cause;
-use crate::verdict::Verdict;
 use crate::workspace::Workspace;
 use eir_io::{Sink, Stop};
-use eir_term::{Memory, Text};
+use eir_print::{Refusal, Reply, print_refusal, print_reply};
 use std::alloc::Global;
 
-/// What an accepted line is answered.
-const ACCEPTED: &[u8] = b"ok\n";
-
-/// The answer to a line that is not blank.
-#[derive(Drop)]
-pub enum Reply {
-    /// It was done.
-    Accepted,
-    /// It was refused. It left everything but the names.
-    Refused(Cause),
-    /// It asked for a mapping.
-    Found(Box<Verdict>),
-}
-
 /// Adds the text of a reply to what is pending.
+#[inline(never)]
 pub fn add_reply<K: Sink>(
     alloc: Global,
     reply: &Reply,
@@ -37,90 +24,53 @@ pub fn add_reply<K: Sink>(
     pending: &mut Outbox,
     out: &mut K,
 ) -> Result<(), Stop>
-    ensures ok { OnOk result (AppendsBut (K.written out.old) (K.written out.new) pending.new
-        (pending.old ++ reply_text workspace.now (Some (told reply.now)))) }
-    ensures err { OnErr result (AppendsPrefix (K.written out.old) (K.written out.new)
-        (pending.old ++ reply_text workspace.now (Some (told reply.now)))) }
+    ensures ok { (a : Answer) → IsReply reply.now a (kind_of workspace.now)
+        → OnOk result (AppendsBut (K.written out.old) (K.written out.new) pending.new
+        (pending.old ++ reply_text workspace.now (Some a))) }
+    ensures err { (a : Answer) → IsReply reply.now a (kind_of workspace.now)
+        → OnErr result (AppendsPrefix (K.written out.old) (K.written out.new)
+        (pending.old ++ reply_text workspace.now (Some a))) }
     ensures cause { HasStopCause (K.faults out.old) (K.faults out.new) result }
 {
-    match reply {
-        Reply::Accepted => pending.add(ACCEPTED, out),
-        Reply::Refused(cause) => add_refusal(alloc, *cause, pending, out),
-        Reply::Found(verdict) => add_found(alloc, verdict, workspace, pending, out),
-    }
+    print_reply(
+        alloc,
+        reply,
+        &workspace.schema,
+        &workspace.names,
+        workspace.examples.list(),
+        &mut pending.text,
+    )?;
+    pending.settle(out)
 }
 
-/// Adds the text of a refusal to what is pending.
-fn add_refusal<K: Sink>(
-    alloc: Global,
-    cause: Cause,
+/// Adds the text of a refusal to what is pending. Want of memory has none, and is told as such.
+#[inline(never)]
+pub fn add_refusal<K: Sink>(
+    refusal: &Refusal,
     pending: &mut Outbox,
     out: &mut K,
 ) -> Result<(), Stop>
+    ensures told { OnOk result (refusal.now ≡ cause.Memory → ⊥) }
     ensures ok { OnOk result (AppendsBut (K.written out.old) (K.written out.new) pending.new
-        (pending.old ++ cause_line cause)) }
+        (pending.old ++ refusal_text refusal.now)) }
     ensures err { OnErr result (AppendsPrefix (K.written out.old) (K.written out.new)
-        (pending.old ++ cause_line cause)) }
+        (pending.old ++ refusal_text refusal.now)) }
     ensures cause { HasStopCause (K.faults out.old) (K.faults out.new) result }
 {
-    match cause {
-        Cause::Full(limit) => add_full(alloc, limit, pending, out),
-        _ => pending.add(plain_refusal(cause), out),
+    match refusal {
+        Refusal::Memory => Err(Stop::Memory),
+        _ => print_told(refusal, pending, out),
     }
 }
 
-/// Adds what the fit found to what is pending.
-fn add_found<K: Sink>(
-    alloc: Global,
-    verdict: &Verdict,
-    workspace: &Workspace,
-    pending: &mut Outbox,
-    out: &mut K,
-) -> Result<(), Stop>
+/// The same of a refusal that has a text.
+fn print_told<K: Sink>(refusal: &Refusal, pending: &mut Outbox, out: &mut K) -> Result<(), Stop>
     ensures ok { OnOk result (AppendsBut (K.written out.old) (K.written out.new) pending.new
-        (pending.old ++ finding_text workspace.now (finding_of verdict.now))) }
+        (pending.old ++ refusal_text refusal.now)) }
     ensures err { OnErr result (AppendsPrefix (K.written out.old) (K.written out.new)
-        (pending.old ++ finding_text workspace.now (finding_of verdict.now))) }
+        (pending.old ++ refusal_text refusal.now)) }
     ensures cause { HasStopCause (K.faults out.old) (K.faults out.new) result }
 {
-    let mut text = Text::make(alloc, b"")?;
-    print_verdict(alloc, verdict, workspace, &mut text)?;
-    pending.add(text.bytes(), out)
-}
-
-/// Adds the refusal by a limit to what is pending.
-fn add_full<K: Sink>(
-    alloc: Global,
-    limit: u64,
-    pending: &mut Outbox,
-    out: &mut K,
-) -> Result<(), Stop>
-    ensures ok { OnOk result (AppendsBut (K.written out.old) (K.written out.new) pending.new
-        (pending.old ++ refused_text (full limit))) }
-    ensures err { OnErr result (AppendsPrefix (K.written out.old) (K.written out.new)
-        (pending.old ++ refused_text (full limit))) }
-    ensures cause { HasStopCause (K.faults out.old) (K.faults out.new) result }
-{
-    let mut text = Text::make(alloc, b"")?;
-    print_full(limit, &mut text)?;
-    pending.add(text.bytes(), out)
-}
-
-/// The text of a refusal but one by a limit, whose text has a number.
-fn plain_refusal(cause: Cause) -> &'static [u8]
-    requires { (n : ℕ) → cause ≡ Cause.Full n → ⊥ }
-    ensures { result.now ≡ cause_line cause }
-{
-    match cause {
-        Cause::Line => b"refused 1 line\n",
-        Cause::Taken => b"refused 2 taken\n",
-        Cause::Relation => b"refused 3 relation\n",
-        Cause::Arity => b"refused 4 arity\n",
-        Cause::Null => b"refused 5 null\n",
-        Cause::Example => b"refused 6 example\n",
-        Cause::There => b"refused 7 there\n",
-        Cause::Missing => b"refused 8 missing\n",
-        Cause::Full(_) => unreachable!(),
-        Cause::Nothing => b"refused 10 nothing\n",
-    }
+    print_refusal(refusal, &mut pending.text)?;
+    pending.settle(out)
 }

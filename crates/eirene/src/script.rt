@@ -1,22 +1,23 @@
 //! A script that is answered while it is read.
-ghost use Rattle.std.specs.Prelude.{◌≡◌, ◌≤◌, ◌+◌, ◌++◌, false, List, [], ℕ, length, take, option_map, IfOk, OnOk, OnErr};
+ghost use Rattle.std.specs.Prelude.{◌≡◌, ◌⊎◌, ◌≤◌, ◌+◌, ◌++◌, false, List, [], ℕ, length, take, Err, IfOk, OnOk, OnErr};
 ghost use Rattle.std.specs.Io.KnownBytes.{Appends};
 ghost use Rattle.eir_io.specs.Causes.{HasStopCause};
 ghost use Rattle.eir_script.specs.Lines.{last_line, trimmed};
 ghost use Rattle.eir_script.specs.Pieces.{Holds, nothing_taken};
 ghost use Rattle.eirene.specs.Outcomes.{AppendsPrefix, AppendsBut};
-ghost use Rattle.eirene.specs.Workspaces.{empty_workspace};
+ghost use Rattle.eir_print.specs.declared.refusal.Refusal.TheVariants as refusal;
+ghost use Rattle.eirene.specs.Workspaces.{empty_workspace, kind_of};
 ghost use Rattle.eirene.specs.Replies.{next, reply_to};
-ghost use Rattle.eirene.specs.Findings.{told};
+ghost use Rattle.eirene.specs.Answers.{IsAnswer};
 ghost use Rattle.eirene.specs.Scripts.{line_reply, replies};
 ghost use Rattle.eirene.specs.Steps.{AnswersLines, AnswersPiece, IsIdle, cut_on};
 ghost use Rattle.eirene.specs.Versions.{HasVersions};
 
 use crate::outbox::Outbox;
-use crate::refusal::Cause;
-use crate::reply::{Reply, add_reply};
+use crate::reply::{add_refusal, add_reply};
 use crate::workspace::Workspace;
 use eir_io::{Sink, Stop};
+use eir_print::{Refusal, Reply};
 use eir_script::{Cutter, LineBytes};
 use eir_term::Memory;
 use std::alloc::Global;
@@ -42,7 +43,7 @@ impl Script {
             alloc,
             workspace: Workspace::new(alloc),
             cutter: Cutter::new(alloc)?,
-            pending: Outbox::new(alloc),
+            pending: Outbox::new(alloc)?,
         })
     }
 
@@ -124,27 +125,34 @@ impl Script {
             (self.old.pending ++ line_reply self.old.workspace (trimmed line))) }
         ensures cause { HasStopCause (K.faults out.old) (K.faults out.new) result }
     {
-        let reply = self.reply()?;
+        let reply = self.reply();
         self.cutter.next();
         match reply {
-            None => Ok(()),
-            Some(reply) => add_reply(self.alloc, &reply, &self.workspace, &mut self.pending, out),
+            Ok(None) => Ok(()),
+            Ok(Some(reply)) => add_reply(
+                self.alloc,
+                &reply,
+                &self.workspace,
+                &mut self.pending,
+                out,
+            ),
+            Err(refusal) => add_refusal(&refusal, &mut self.pending, out),
         }
     }
 
-    /// The reply to the line that was taken; the workspace is that after it.
-    fn reply(&mut self) -> Result<Option<Reply>, Memory>
+    /// What the line that was taken is answered; the workspace is that after it.
+    fn reply(&mut self) -> Result<Option<Reply>, Refusal>
         requires { HasVersions self.old.workspace 1 }
-        ensures reply { (line : List ℕ) → Holds self.old.cutter line →
-            IfOk result (λ r. option_map told r ≡ reply_to (trimmed line) self.old.workspace) }
+        ensures answer { (line : List ℕ) → Holds self.old.cutter line →
+            IsAnswer result (reply_to (trimmed line) self.old.workspace) (kind_of self.new.workspace) }
         ensures next { (line : List ℕ) → Holds self.old.cutter line →
-            IfOk result (λ r. self.new.workspace ≡ next (trimmed line) self.old.workspace) }
+            (result ≡ Err refusal.Memory) ⊎ (self.new.workspace ≡ next (trimmed line) self.old.workspace) }
         ensures cutter { self.new.cutter ≡ self.old.cutter }
         ensures pending { self.new.pending ≡ self.old.pending }
     {
         match self.cutter.line() {
             LineBytes::Bytes(line) => self.workspace.answer(line),
-            LineBytes::Long => Ok(Some(Reply::Refused(Cause::Line))),
+            LineBytes::Long => Err(Refusal::Line),
         }
     }
 }

@@ -107,9 +107,20 @@ ok\nok\nok\nrefused 10 nothing\n",
             "fits glav 0\nrefused 1 line\nfits glav 0\nfits glav 0\n",
         ),
         (
-            "kind glav\nbudget 7\ntries\nreduce\nchase e1\ncert f\ntable R f\nexchange\ntake ann e1\nFit\n",
+            "kind glave\nbudget 7\ntries\nreduce\nchase e1\ncert f\ntable R f\nexchange\ntake ann e1\nFit\n",
             "refused 1 line\nrefused 1 line\nrefused 1 line\nrefused 1 line\nrefused 1 line\n\
 refused 1 line\nrefused 1 line\nrefused 1 line\nrefused 1 line\nrefused 1 line\n",
+        ),
+        // A null folds into a fact beside it, or not; the last kind counts.
+        (
+            "source R(a)\ntarget T(a,b)\nnew e1\nput e1 R(ann)\nput e1 T(ann,?n)\nkind gav\nfit\nput e1 T(ann,ann)\nfit\n\
+kind glav\nfit\nkind gav\nkind glav\nkind gav\nnew e2\nput e2 R(bob)\nfit\n",
+            "ok\nok\nok\nok\nok\nok\nfold e1\nok\nfits gav 1\nR(x1) -> T(x1,x1)\nok\nfits glav 1\n\
+R(x1) -> exists y1 . T(x1,y1) & T(x1,x1)\nok\nok\nok\nok\nok\nrefuted e1 e2 ann->bob\n",
+        ),
+        (
+            "target T(a)\nnew e1\nput e1 T(?n)\nfit\nkind gav\nfit\n",
+            "ok\nok\nok\nfits glav 1\ntrue -> exists y1 . T(y1)\nok\nfold e1\n",
         ),
         // Each refusal in front of each later one.
         (

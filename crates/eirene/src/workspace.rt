@@ -1,5 +1,5 @@
 //! The state of a run.
-ghost use Rattle.std.specs.Prelude.{◌≡◌, ◌≤◌, false, None, Some, IfErr, IfOk, OnOk, OnErr, length, option_map};
+ghost use Rattle.std.specs.Prelude.{◌≡◌, ◌⊎◌, ◌≤◌, false, None, Some, Err, IfErr, IfOk, OnOk, OnErr, length};
 ghost use Rattle.std.specs.List.{list_any};
 ghost use Rattle.eir_term.specs.Values.{is_null};
 ghost use Rattle.eir_schema.specs.Schemas.{find_relation};
@@ -7,34 +7,35 @@ ghost use Rattle.eir_edit.specs.Causes.{first_cause};
 ghost use Rattle.eir_edit.specs.Edits.{is_null_in_source};
 ghost use Rattle.eir_edit.specs.State as state;
 ghost use Rattle.eir_edit.specs.State.{fact_of, fact_tests, relation_of};
-ghost use Rattle.eirene.specs.Workspaces.{empty_workspace};
-ghost use Rattle.eirene.specs.Replies.{Request, answer, accepted, act, after, given, next, reply_to, request_of};
-ghost use Rattle.eirene.specs.Findings.{told};
-ghost use Rattle.eirene.specs.Refusals.{IsCaused, IsFilledCommand, IsRefused};
+ghost use Rattle.eirene.specs.Workspaces.{empty_workspace, kind_of};
+ghost use Rattle.eir_print.specs.Causes.{IsCaused};
+ghost use Rattle.eir_print.specs.declared.refusal.Refusal.TheVariants as refusal;
+ghost use Rattle.eirene.specs.Replies.{Request, act, after, answer, done, fit, given, next, next_by, reply_by, reply_to, request_of};
+ghost use Rattle.eirene.specs.Answers.{IsAnswer, IsFilledCommand, IsRefused, IsReply};
 ghost use Rattle.eirene.specs.Versions.{HasVersions};
 
-use crate::refusal::{Cause, Refusal};
-use crate::reply::Reply;
 use crate::verdict::verdict_on;
 use eir_edit::{Examples, Versions};
+use eir_print::{Refusal, Reply};
 use eir_schema::{Names, Schema};
 use eir_script::{Command, LineRefused, RawFact, read_line};
-use eir_term::{Fact, Memory, Side, Text, Val};
+use eir_term::{Fact, Kind, Side, Text, Val};
 use std::alloc::Global;
 use std::marker::Model;
 
-/// The table of names, the schema, the examples with their undo list, and the number of versions drawn.
+/// The table of names, the schema, the examples with their undo list, the kind of mapping that is asked for, and the
+/// number of versions drawn.
 #[derive(Drop)]
 pub struct Workspace {
     alloc: Global,
     pub names: Names,
     pub schema: Schema,
     pub examples: Examples,
+    kind: Kind,
     versions: Versions,
 }
 
 impl Model for Workspace {
-    ghost use Rattle.eir_term.specs.declared.val.Kind.TheVariants.{Glav};
     ghost use Rattle.eirene.specs.Workspaces.{Workspace as State, first_budget};
 
     ghost Value = { State };
@@ -43,13 +44,13 @@ impl Model for Workspace {
       names = w.names;
       work = record {
         drawn = w.versions;
-        desk = record { schema = w.schema; history = w.examples; kind = Glav; budget = first_budget; limit = 512 };
+        desk = record { schema = w.schema; history = w.examples; kind = w.kind; budget = first_budget; limit = 512 };
       };
     } };
 }
 
 impl Workspace {
-    /// No name, no relation and no example.
+    /// No name, no relation and no example; the kind is GLAV.
     pub fn new(alloc: Global) -> Workspace
         ensures { result ≡ empty_workspace }
     {
@@ -58,51 +59,61 @@ impl Workspace {
             names: Names::new(alloc),
             schema: Schema::new(alloc),
             examples: Examples::new(alloc),
+            kind: Kind::Glav,
             versions: Versions::new(),
         }
     }
 
     /// Answers a line. A blank one has no reply.
-    pub fn answer(&mut self, line: &[u8]) -> Result<Option<Reply>, Memory>
+    pub fn answer(&mut self, line: &[u8]) -> Result<Option<Reply>, Refusal>
         requires { HasVersions self.old 1 }
-        ensures { IfOk result (λ r. (option_map told r ≡ reply_to line.now self.old)
-            × (self.new ≡ next line.now self.old)) }
+        ensures answer { IsAnswer result (reply_to line.now self.old) (kind_of self.new) }
+        ensures next { (result ≡ Err refusal.Memory) ⊎ (self.new ≡ next line.now self.old) }
     {
         match read_line(self.alloc, line, &mut self.names) {
-            Ok(Command::Blank) => Ok(None),
-            Ok(command) => Ok(Some(self.perform(&command)?)),
-            Err(LineRefused::Bad) => Ok(Some(Reply::Refused(Cause::Line))),
-            Err(LineRefused::Memory) => Err(Memory),
+            Ok(command) => self.apply(&command),
+            Err(LineRefused::Bad) => Err(Refusal::Line),
+            Err(LineRefused::Memory) => Err(Refusal::Memory),
         }
     }
 
-    /// Does what a command asks, or refuses it.
-    fn perform(&mut self, command: &Command) -> Result<Reply, Memory>
+    /// Does what a command asks, or refuses it. A blank one has no reply.
+    #[inline(never)]
+    fn apply(&mut self, command: &Command) -> Result<Option<Reply>, Refusal>
         requires versions { HasVersions self.old 1 }
         requires filled { IsFilledCommand command.now }
-        ensures { IfOk result (λ r. (told r ≡ answer (request_of command.now) self.old)
-            × (self.new ≡ after (request_of command.now) self.old)) }
+        ensures answer { IsAnswer result (reply_by (Some command.now) self.old) (kind_of self.new) }
+        ensures next { (result ≡ Err refusal.Memory) ⊎ (self.new ≡ next_by (Some command.now) self.old) }
     {
         match command {
-            Command::Fit => {
-                self.examples.settle()?;
-                let found = verdict_on(self.alloc, self.examples.list())?;
-                Ok(Reply::Found(Box::new(self.alloc, found)?))
+            Command::Blank => Ok(None),
+            Command::Fit => Ok(Some(self.fit()?)),
+            _ => {
+                self.act(command)?;
+                Ok(Some(Reply::Done))
             }
-            _ => match self.apply(command) {
-                Ok(()) => Ok(Reply::Accepted),
-                Err(Refusal::For(cause)) => Ok(Reply::Refused(cause)),
-                Err(Refusal::Memory) => Err(Memory),
-            },
         }
+    }
+
+    /// The verdict on the present examples, each of which gets the index of its facts first.
+    #[inline(never)]
+    fn fit(&mut self) -> Result<Reply, Refusal>
+        ensures reply { IfOk result (λ r. IsReply r (answer (Some fit) self.old) (kind_of self.new)) }
+        ensures memory { IfErr result (λ e. e ≡ refusal.Memory) }
+        ensures same { self.new ≡ self.old }
+    {
+        self.examples.settle()?;
+        let found = verdict_on(self.alloc, self.kind, self.examples.list())?;
+        Ok(Reply::Verdict(self.kind, found))
     }
 
     /// Does what a command other than a fit asks, or refuses it for the first cause that holds.
-    fn apply(&mut self, command: &Command) -> Result<(), Refusal>
+    #[inline(never)]
+    fn act(&mut self, command: &Command) -> Result<(), Refusal>
         requires versions { HasVersions self.old 1 }
         requires filled { IsFilledCommand command.now }
         requires other { command.now ≡ Command.Fit → ⊥ }
-        ensures ok { OnOk result ((answer (request_of command.now) self.old ≡ accepted)
+        ensures ok { OnOk result ((answer (request_of command.now) self.old ≡ done)
             × (self.new ≡ after (request_of command.now) self.old)) }
         ensures refused { IfErr result (λ e. IsRefused e (request_of command.now) self.old) }
         ensures err { OnErr result (self.new ≡ self.old) }
@@ -114,7 +125,11 @@ impl Workspace {
             Command::Cut(name, raw) => self.cut(name, raw),
             Command::Drop(name) => self.drop_one(name),
             Command::Undo => self.undo(),
-            _ => Err(Refusal::For(Cause::Line)),
+            Command::Kind(kind) => {
+                self.kind = *kind;
+                Ok(())
+            }
+            _ => Err(Refusal::Line),
         }
     }
 
@@ -122,7 +137,7 @@ impl Workspace {
     fn declare(&mut self, side: Side, name: &Text, columns: &[Text]) -> Result<(), Refusal>
         requires { 1 ≤ length columns.now }
         ensures ok { let asked = Some (act (state.declare side name.now columns.now)) in
-            OnOk result ((answer asked self.old ≡ accepted) × (self.new ≡ after asked self.old)) }
+            OnOk result ((answer asked self.old ≡ done) × (self.new ≡ after asked self.old)) }
         ensures refused { let asked = Some (act (state.declare side name.now columns.now)) in
             IfErr result (λ e. IsRefused e asked self.old) }
         ensures err { OnErr result (self.new ≡ self.old) }
@@ -135,7 +150,7 @@ impl Workspace {
     fn add(&mut self, name: &Text) -> Result<(), Refusal>
         requires { HasVersions self.old 1 }
         ensures ok { let asked = Some (act (state.add name.now)) in
-            OnOk result ((answer asked self.old ≡ accepted) × (self.new ≡ after asked self.old)) }
+            OnOk result ((answer asked self.old ≡ done) × (self.new ≡ after asked self.old)) }
         ensures refused { let asked = Some (act (state.add name.now)) in
             IfErr result (λ e. IsRefused e asked self.old) }
         ensures err { OnErr result (self.new ≡ self.old) }
@@ -148,7 +163,7 @@ impl Workspace {
     fn put(&mut self, name: &Text, raw: &RawFact) -> Result<(), Refusal>
         requires { HasVersions self.old 1 }
         ensures ok { let asked = Some (act (state.put name.now (given raw.now))) in
-            OnOk result ((answer asked self.old ≡ accepted) × (self.new ≡ after asked self.old)) }
+            OnOk result ((answer asked self.old ≡ done) × (self.new ≡ after asked self.old)) }
         ensures refused { let asked = Some (act (state.put name.now (given raw.now))) in
             IfErr result (λ e. IsRefused e asked self.old) }
         ensures err { OnErr result (self.new ≡ self.old) }
@@ -162,7 +177,7 @@ impl Workspace {
     fn cut(&mut self, name: &Text, raw: &RawFact) -> Result<(), Refusal>
         requires { HasVersions self.old 1 }
         ensures ok { let asked = Some (act (state.cut name.now (given raw.now))) in
-            OnOk result ((answer asked self.old ≡ accepted) × (self.new ≡ after asked self.old)) }
+            OnOk result ((answer asked self.old ≡ done) × (self.new ≡ after asked self.old)) }
         ensures refused { let asked = Some (act (state.cut name.now (given raw.now))) in
             IfErr result (λ e. IsRefused e asked self.old) }
         ensures err { OnErr result (self.new ≡ self.old) }
@@ -175,7 +190,7 @@ impl Workspace {
     /// Drops an example.
     fn drop_one(&mut self, name: &Text) -> Result<(), Refusal>
         ensures ok { let asked = Some (act (state.drop name.now)) in
-            OnOk result ((answer asked self.old ≡ accepted) × (self.new ≡ after asked self.old)) }
+            OnOk result ((answer asked self.old ≡ done) × (self.new ≡ after asked self.old)) }
         ensures refused { let asked = Some (act (state.drop name.now)) in
             IfErr result (λ e. IsRefused e asked self.old) }
         ensures err { OnErr result (self.new ≡ self.old) }
@@ -187,7 +202,7 @@ impl Workspace {
     /// Undoes the last edit that is not yet undone.
     fn undo(&mut self) -> Result<(), Refusal>
         ensures ok { let asked = Some (act state.undo_last) in
-            OnOk result ((answer asked self.old ≡ accepted) × (self.new ≡ after asked self.old)) }
+            OnOk result ((answer asked self.old ≡ done) × (self.new ≡ after asked self.old)) }
         ensures refused { IfErr result (λ e. IsRefused e (Some (act state.undo_last)) self.old) }
         ensures err { OnErr result (self.new ≡ self.old) }
     {
@@ -206,14 +221,14 @@ impl Workspace {
             (λ e. IsCaused e (first_cause (fact_tests (given raw.now) self.now.work.desk.schema))) }
     {
         let Some(relation) = self.schema.find(&raw.relation) else {
-            return Err(Refusal::For(Cause::Relation));
+            return Err(Refusal::Relation);
         };
         let values = raw.args.as_slice();
         if values.len() != relation.arity as usize {
-            return Err(Refusal::For(Cause::Arity));
+            return Err(Refusal::Arity);
         }
         if is_null_in_source(relation.side, values) {
-            return Err(Refusal::For(Cause::Null));
+            return Err(Refusal::Null);
         }
         let fact = Fact::make(self.alloc, relation.number, values)?;
         Ok((relation.side, fact))

@@ -5,4 +5,5 @@ use Rattle.eir_canon.specs.Parts.{implies}
 use Rattle.eir_canon.proofs.gav.push_implied.Given as goal
 
 abbrev pub invariant-loop-fact : goal.invariant-loop-fact
-invariant-loop-fact l = l.mapping ≡ l.initial.mapping ++ map (λ f. implies l.premise (atom_of l.variables f)) (filter is_ground (take l.fact-index l.facts))
+invariant-loop-fact l = l.mapping ≡ l.initial.mapping ++ map (λ f. implies l.premise (atom_of l.variables f))
+    (filter is_ground (take l.fact-index l.facts))

@@ -2,7 +2,7 @@ use Rattle.std.proofs.Common.{◌≡◌, filter, subst, sym, ap, ◌∙◌, refl
 use Rattle.eir_term.specs.Values.{is_const}
 use Rattle.eir_term.specs.Instances.{values}
 use Rattle.eir_term.specs.Maps.{graph}
-use Rattle.eir_ext.specs.Trials.{paired}
+use Rattle.eir_edit.specs.Pairs.{paired}
 use Rattle.eir_ext.specs.Searching.{AreNumbers}
 use Rattle.eir_ext.proofs.StartLaws.{Numbered, none-missing, unnamed-next, Numbered-more, Numbered-other, Numbered-all}
 use Rattle.eir_ext.proofs.start.constants_between.Goals as goal

@@ -2,7 +2,7 @@ use Rattle.std.proofs.Common.{◌≡◌, IfOk, ap, ap₂, subst, ◌∙◌}
 use Rattle.eir_term.specs.Instances.{consts, values}
 use Rattle.eir_term.specs.Search.{constants_fixed}
 use Rattle.eir_term.specs.Verdicts.{first_foreign}
-use Rattle.eir_ext.specs.Trials.{paired}
+use Rattle.eir_edit.specs.Pairs.{paired}
 use Rattle.eir_ext.specs.Searching.{AreNumbers}
 use Rattle.eir_ext.proofs.start.constants_of.Goals as goal
 

@@ -1,7 +1,8 @@
 use Rattle.std.proofs.Common.{◌≡◌, None, IfOk, rules, refl, sym, ap, ap₂, ◌∙◌, subst}
 use Rattle.eir_term.specs.Order.{KeepsFixed}
 use Rattle.eir_term.specs.Verdicts.{first_foreign, first_refuting}
-use Rattle.eir_ext.specs.Trials.{pair_of, refuting_of}
+use Rattle.eir_edit.specs.Pairs.{pair_of}
+use Rattle.eir_ext.specs.Trials.{refuting_of}
 use Rattle.eir_ext.specs.Searching.{first_trial}
 use Rattle.eir_ext.proofs.VerdictLaws.{begun-from, found-begun, none-begun, first-at_most, first-spent, first-extends, both-at_most, both-spent, both-extends, at_most-none, same, rises-both, steps-both, not-going}
 use Rattle.eir_ext.proofs.verdict.test_pair.Goals as goal

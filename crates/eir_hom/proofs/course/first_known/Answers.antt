@@ -1,5 +1,5 @@
 use Rattle.std.proofs.Common.{length}
-use Rattle.eir_hom.proofs.Tallies.{AllUnder-at}
+use Rattle.eir_hom.proofs.FitLaws.{AllUnder-at}
 use Rattle.eir_hom.proofs.course.first_known.Goals as goal
 
 pub bounds-known-numbers : goal.bounds-known-numbers

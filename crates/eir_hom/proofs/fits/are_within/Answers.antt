@@ -2,8 +2,7 @@ use Rattle.std.proofs.Common.{rules, ◌∙◌, ◌+◌, ◌&&◌, [], length, d
 use Rattle.std.proofs.lemmas.List.{get_or_read}
 use Rattle.eir_term.specs.Profiles.{is_within}
 use Rattle.eir_hom.specs.Fits.{fits_row}
-use Rattle.eir_hom.proofs.Tallies.{AllUnder-at}
-use Rattle.eir_hom.proofs.FitLaws.{answer-within, fits-step}
+use Rattle.eir_hom.proofs.FitLaws.{AllUnder-at, answer-within, fits-step}
 use Rattle.eir_hom.proofs.fits.are_within.Goals as goal
 
 pub offset_bounds-profiles-from : goal.offset_bounds-profiles-from

@@ -1,6 +1,6 @@
 use Rattle.std.proofs.Common.{◌∙◌, length, ap, arith}
 use Rattle.eir_term.specs.Instances.{values}
-use Rattle.eir_hom.proofs.Tallies.{written}
+use Rattle.eir_hom.proofs.StartLaws.{written}
 use Rattle.eir_hom.proofs.StartLaws.{resized}
 use Rattle.eir_hom.proofs.starts.images_of.Goals as goal
 

@@ -1,6 +1,7 @@
 use Rattle.std.proofs.Common.{◌++◌, codes}
 use Rattle.eir_term.specs.declared.val.Val.TheVariants.{Const}
-use Rattle.eir_print.specs.Verdicts.{examples_of, example_text, constant_text}
+use Rattle.eir_edit.specs.Pairs.{examples_of}
+use Rattle.eir_print.specs.Verdicts.{example_text, constant_text}
 use Rattle.eir_print.proofs.PrefixLaws.{if_err, then, done, first}
 use Rattle.eir_print.proofs.verdict.print_domain.Goals as goal
 

@@ -1,5 +1,6 @@
 use Rattle.std.proofs.Common.{◌++◌, codes}
-use Rattle.eir_print.specs.Verdicts.{examples_of, example_text, source_at, moves_text}
+use Rattle.eir_edit.specs.Pairs.{examples_of}
+use Rattle.eir_print.specs.Verdicts.{example_text, source_at, moves_text}
 use Rattle.eir_print.proofs.PrefixLaws.{if_err, then, done, first}
 use Rattle.eir_print.proofs.verdict.print_refuted.Goals as goal
 

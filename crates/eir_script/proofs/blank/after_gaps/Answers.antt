@@ -1,4 +1,4 @@
-use Rattle.std.proofs.Common.{◌≡◌, true, sym, ◌∙◌}
+use Rattle.std.proofs.Common.{sym, ◌∙◌}
 use Rattle.std.specs.Prelude.{IsTrue}
 use Rattle.eir_script.specs.Grammar.{is_gap}
 use Rattle.eir_script.proofs.ScanLaws.{all_more, SkipsGaps-at}

@@ -1,4 +1,4 @@
-use Rattle.std.proofs.Common.{◌≡◌, Some, [], ◌∷◌, ◌++◌, map, sym, ◌∙◌, ap, ap₂, subst}
+use Rattle.std.proofs.Common.{◌≡◌, Some, [], ◌∷◌, ◌++◌, map, ◌∙◌, ap, ap₂, subst}
 use Rattle.std.specs.Prelude.{option_and_then}
 use Rattle.eir_script.specs.Forms.{argument_in, arguments_first}
 use Rattle.eir_script.specs.Reading.{argument_name}

@@ -1,4 +1,4 @@
-use Rattle.eir_script.proofs.ScanLaws.{label-first, label-too_long, run-shorter}
+use Rattle.eir_script.proofs.ScanLaws.{label-first, label-too_long}
 use Rattle.eir_script.proofs.token.scan_name.Goals as goal
 
 pub returns-in-Some-clause-next : goal.returns-in-Some-clause-next

@@ -1,5 +1,5 @@
 use Rattle.std.proofs.Common.{ap, sym, ◌∙◌}
-use Rattle.eir_verdict.specs.Pairs.{pair_of}
+use Rattle.eir_edit.specs.Pairs.{pair_of}
 use Rattle.eir_verdict.proofs.ForeignLaws.{first_among-all}
 use Rattle.eir_verdict.proofs.foreign.first_foreign.Goals as goal
 

@@ -1,6 +1,6 @@
-use Rattle.std.proofs.Common.{◌≡◌, map, drop, option_map}
+use Rattle.std.proofs.Common.{◌≡◌, drop, option_map}
 use Rattle.eir_term.specs.Verdicts.{first_finding, first_foreign, foreign_at}
-use Rattle.eirene.specs.Lent.{pairs_of}
+use Rattle.eir_edit.specs.Pairs.{pairs_of}
 use Rattle.eirene.proofs.verdict.domain_finding.Given as goal
 
 abbrev pub invariant-loop-place : goal.invariant-loop-place

@@ -1,4 +1,9 @@
+use Rattle.std.proofs.Common.{◌≡◌, drop, option_map}
+use Rattle.eir_term.specs.Verdicts.{first_finding, first_refuting, refuted}
+use Rattle.eir_edit.specs.Pairs.{pairs_of}
 use Rattle.eirene.proofs.verdict.refuted_finding.Given as goal
 
-abbrev pub ghosts-first_refuted : goal.ghosts-first_refuted
-ghosts-first_refuted a = record { name = a.blank.name; parts = a.blank.parts }
+abbrev pub invariant-loop-place : goal.invariant-loop-place
+invariant-loop-place g l =
+    first_finding (λ i e. first_finding (λ j f. option_map (refuted i j) (first_refuting e f)) 0 (pairs_of l.examples)) l.place (drop l.place (pairs_of l.examples))
+    ≡ first_finding (λ i e. first_finding (λ j f. option_map (refuted i j) (first_refuting e f)) 0 (pairs_of l.examples)) 0 (pairs_of l.examples)

@@ -4,7 +4,7 @@ use Rattle.eir_term.specs.Maps.{domain_of, image}
 use Rattle.eir_term.specs.Instances.{values, consts}
 use Rattle.eir_term.specs.Search.{homs, need}
 use Rattle.eir_term.proofs.HomLaws.{domain_of-graph}
-use Rattle.eir_ext.specs.Trials.{pair_of}
+use Rattle.eir_edit.specs.Pairs.{pair_of}
 use Rattle.eir_ext.specs.declared.searches.Stage.TheVariants.{Targets}
 use Rattle.eir_ext.proofs.StageLaws.{constants-keep_fixed, first-named, start-followed, AreSearches-after_first, trial-after_first}
 use Rattle.eir_ext.proofs.searches.Searches.after_first.Goals as goal

@@ -1,7 +1,7 @@
 use Rattle.std.proofs.Common.{[], refl, sym, ap, ap₂, ◌∙◌, subst}
 use Rattle.eir_term.specs.Order.{KeepsFixed}
 use Rattle.eir_term.specs.Search.{homs}
-use Rattle.eir_ext.specs.Trials.{pair_of}
+use Rattle.eir_edit.specs.Pairs.{pair_of}
 use Rattle.eir_ext.proofs.StageLaws.{constants-keep_fixed, AreSearches-begun}
 use Rattle.eir_ext.proofs.searches.Searches.begin.Goals as goal
 

@@ -1,8 +1,7 @@
 use Rattle.std.proofs.Common.{◌≡◌, ◌<◌, ◌∙◌, ◌+◌, ◌&&◌, [], false, length, drop, get_or, sym, ap, arith}
 use Rattle.std.proofs.lemmas.List.{get_or_read, get_or-map, length-map}
 use Rattle.eir_hom.specs.Fits.{fits_row}
-use Rattle.eir_hom.proofs.Tallies.{AllUnder-at}
-use Rattle.eir_hom.proofs.FitLaws.{fits-step}
+use Rattle.eir_hom.proofs.FitLaws.{AllUnder-at, fits-step}
 use Rattle.eir_hom.proofs.fits.Answers.are_yes.Goals as goal
 
 pub index-requires : goal.index-requires

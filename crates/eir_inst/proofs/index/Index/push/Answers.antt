@@ -1,4 +1,4 @@
-use Rattle.std.proofs.Common.{refl}
+use Rattle.std.proofs.Common.{◌<◌, ◌^◌, length, refl, ap, arith}
 use Rattle.eir_inst.specs.Postings.{listed}
 use Rattle.eir_inst.proofs.IndexLaws.{IsIndex-same, IsIndex-push, IsIndex-pop, on-err}
 use Rattle.eir_inst.proofs.index.Index.push.Goals as goal
@@ -12,4 +12,5 @@ returns-then-is_err-clause-err c =
 
 pub returns-else-is_err-clause-ok : goal.returns-else-is_err-clause-ok
 returns-else-is_err-clause-ok c =
-    IsIndex-push c.push-pushed.result c.args.self.now _ c.args.fact.now c.args.place c.in_ok-push.ensures.ok c.push-pushed.ensures.values c.push-pushed.ensures.rows c.push-pushed.ensures.profiles
+    let few : length c.args.fact.now.args < 2 ^ 32 = omega (arith, c.if-as_slice.false, ap length c.as_slice.ensures.values) in
+    IsIndex-push c.push-pushed.result c.args.self.now _ c.args.fact.now c.args.place few c.in_ok-push.ensures.ok c.push-pushed.ensures.values c.push-pushed.ensures.rows c.push-pushed.ensures.profiles

@@ -1,4 +1,4 @@
-use Rattle.std.proofs.Common.{◌≡◌, ◌-◌, ◌++◌, min, length, take, sym, ◌∙◌, ap, ap₂, rules}
+use Rattle.std.proofs.Common.{◌≡◌, ◌-◌, ◌++◌, min, length, take, ◌∙◌, ap, ap₂, rules}
 use Rattle.eir_script.specs.Pieces.{Taking}
 use Rattle.eir_script.proofs.CutterLaws.{hold-more}
 use Rattle.eir_script.proofs.cutter.Cutter.hold.Goals as goal

@@ -1,4 +1,4 @@
-use Rattle.std.proofs.Common.{◌≡◌, ◌≤◌, ◌<◌, ℕ, List, length, take, sym, ◌∙◌, ap, subst}
+use Rattle.std.proofs.Common.{◌≡◌, ◌≤◌, ◌<◌, ℕ, List, length, take, ◌∙◌, ap, subst}
 use Rattle.eir_script.specs.Lines.{trimmed}
 use Rattle.eir_script.specs.Pieces.{Taking}
 use Rattle.eir_script.proofs.CutterLaws.{long-held, short-held}

@@ -1,6 +1,0 @@
-use Rattle.std.proofs.Common.{◌≡◌, map, take}
-use Rattle.eir_term.specs.Canonical.{term_of}
-use Rattle.eirene.proofs.canonical.atom_of.Given as goal
-
-abbrev pub invariant-loop-value : goal.invariant-loop-value
-invariant-loop-value l = l.terms.items ≡ map (term_of l.variables.keys) (take l.value-index l.values)

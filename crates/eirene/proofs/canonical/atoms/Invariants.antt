@@ -1,6 +1,0 @@
-use Rattle.std.proofs.Common.{◌≡◌, map, take}
-use Rattle.eir_term.specs.Canonical.{atom_of}
-use Rattle.eirene.proofs.canonical.atoms.Given as goal
-
-abbrev pub invariant-loop-fact : goal.invariant-loop-fact
-invariant-loop-fact l = l.atoms.items ≡ map (atom_of l.variables.keys) (take l.fact-index l.facts)

@@ -1,7 +1,0 @@
-use Rattle.std.proofs.Common.{◌≡◌, [], nat_eq, drop}
-use Rattle.indexmap.specs.IndexSet.{insert_all}
-use Rattle.eir_term.specs.Dependencies.{vars}
-use Rattle.eirene.proofs.print.numbered.variables_in.Given as goal
-
-abbrev pub invariant-loop-atom : goal.invariant-loop-atom
-invariant-loop-atom l = insert_all nat_eq l.found.keys (vars (drop l.atom-index l.atoms)) ≡ insert_all nat_eq [] (vars l.atoms)
