@@ -10,7 +10,7 @@ pub enum Reply {
     /// What it asks for was done, and there is no more to tell.
     Done,
     /// What a fit for the kind found.
-    Verdict(Kind, Verdict),
+    Verdict(Kind, Box<Verdict>),
     /// The budget was used up while so many pairs were decided.
     Spent { limit: u64, pairs: u64 },
     /// The budget was used up later.
@@ -18,9 +18,9 @@ pub enum Reply {
     /// The tries that the last fit made.
     Tries(u64),
     /// A reduced mapping.
-    Reduced(Kind, Reduction),
+    Reduced(Kind, Box<Reduction>),
     /// The facts that the source of the example of the name makes.
-    Chased(Text, Instance),
+    Chased(Text, Box<Instance>),
     /// The file that a certificate was stored in, with the number of its bytes.
     Cert(Text, u64),
     /// The tables that were stored.

@@ -140,6 +140,11 @@ fn compare_replies(
     Ok(())
 }
 
+/// The reply to a fit that found this.
+fn found(alloc: Global, kind: Kind, verdict: Verdict) -> Result<Reply, Fail> {
+    Ok(Reply::Verdict(kind, Box::new(alloc, verdict)?))
+}
+
 #[test]
 fn verdicts(rt: HostRuntime) -> Result<(), Fail> {
     let alloc = rt.alloc();
@@ -153,21 +158,21 @@ fn verdicts(rt: HostRuntime) -> Result<(), Fail> {
         map: map(alloc)?,
     };
     let cases = [
-        (Reply::Verdict(Kind::Glav, domain), "domain e bob\n"),
+        (found(alloc, Kind::Glav, domain)?, "domain e bob\n"),
         (
-            Reply::Verdict(Kind::Gav, Verdict::Fold { example: 1 }),
+            found(alloc, Kind::Gav, Verdict::Fold { example: 1 })?,
             "fold f\n",
         ),
         (
-            Reply::Verdict(Kind::Glav, refuted),
+            found(alloc, Kind::Glav, refuted)?,
             "refuted e f ann->bob bob->bob\n",
         ),
         (
-            Reply::Verdict(Kind::Glav, Verdict::Fits(mapping(alloc)?)),
+            found(alloc, Kind::Glav, Verdict::Fits(mapping(alloc)?))?,
             "fits glav 2\nE(x1,x2) -> exists y1 . P(x1,y1)\nE(x1,x2) -> P(x2,x1)\n",
         ),
         (
-            Reply::Verdict(Kind::Gav, Verdict::Fits(Mapping::new(alloc))),
+            found(alloc, Kind::Gav, Verdict::Fits(Mapping::new(alloc)))?,
             "fits gav 0\n",
         ),
     ];
@@ -187,11 +192,11 @@ fn replies(rt: HostRuntime) -> Result<(), Fail> {
         (spent, "spent 10 after 2 pairs\n"),
         (Reply::Tries(u64::MAX), "tries 18446744073709551615\n"),
         (
-            Reply::Reduced(Kind::Gav, reduction(alloc)?),
+            Reply::Reduced(Kind::Gav, Box::new(alloc, reduction(alloc)?)?),
             "reduced gav 2 1\nE(x1,x2) -> exists y1 . P(x1,y1)\nE(x1,x2) -> P(x2,x1)\n- dependency E(x1,x2) -> P(x1,x1)\n",
         ),
         (
-            Reply::Chased(Text::make(alloc, b"e")?, chased),
+            Reply::Chased(Text::make(alloc, b"e")?, Box::new(alloc, chased)?),
             "chase e 1\nP(bob,?1)\n",
         ),
         (

@@ -104,7 +104,10 @@ impl Workspace {
     {
         self.examples.settle()?;
         let found = verdict_on(self.alloc, self.kind, self.examples.list())?;
-        Ok(Reply::Verdict(self.kind, found))
+        match Box::new(self.alloc, found) {
+            Ok(found) => Ok(Reply::Verdict(self.kind, found)),
+            Err(_) => Err(Refusal::Memory),
+        }
     }
 
     /// Does what a command other than a fit asks, or refuses it for the first cause that holds.
