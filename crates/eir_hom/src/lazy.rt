@@ -121,6 +121,8 @@ fn reach(matcher: &mut Matcher, source: &Indexed)
 }
 
 /// Compiles the next level, where all that are compiled are placed.
+#[cold]
+#[inline(never)]
 fn push_next(matcher: &mut Matcher, source: &Indexed)
     requires cut { IsCut source.now.facts matcher.old }
     requires placed { length matcher.old.placed ≡ length matcher.old.levels }

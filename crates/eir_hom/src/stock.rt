@@ -110,6 +110,24 @@ impl Stock {
             ≡ slice_index_or (table_at self.old.tables table).rows key [] }
         ensures within { result.first + result.count * (table_at self.old.tables table).stride ≤ length self.new.cells }
     {
+        match self.tables.laid(table, key) {
+            Some(range) => range,
+            None => self.lay(table, key),
+        }
+    }
+
+    /// The same, where the rows may not be laid yet; it adds the tables that are not there.
+    #[cold]
+    #[inline(never)]
+    fn lay(&mut self, table: usize, key: usize) -> Range
+        requires { table < length self.old.tables }
+        ensures tables { self.new.tables ≡ self.old.tables }
+        ensures shapes { self.new.shapes ≡ self.old.shapes }
+        ensures cells { take (length self.old.cells) self.new.cells ≡ self.old.cells }
+        ensures rows { rows_in self.new.cells (table_at self.old.tables table).stride result
+            ≡ slice_index_or (table_at self.old.tables table).rows key [] }
+        ensures within { result.first + result.count * (table_at self.old.tables table).stride ≤ length self.new.cells }
+    {
         add_to(
             &self.source,
             &self.target,

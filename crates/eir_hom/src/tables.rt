@@ -130,6 +130,24 @@ impl Tables {
         }
     }
 
+    /// Where the rows of a key stand, if its table is there and the key is one of its keys and is laid.
+    pub(crate) fn laid(&self, table: usize, key: usize) -> Option<Range>
+        ensures table { IfSome result (λ _. table < length self.now.tables) }
+        ensures rows { IfSome result (λ range.
+            Some (rows_in self.now.cells (laid_at self.now.tables table).stride range)
+            ≡ slice_index_or (laid_at self.now.tables table).rows key (Some [])) }
+        ensures within { IfSome result (λ range. range.first + range.count * (laid_at self.now.tables table).stride
+            ≤ length self.now.cells) }
+    {
+        if table < self.layouts.len() {
+            let layout = self.layouts[table];
+            if key < layout.keys {
+                return self.ranges[layout.first + key];
+            }
+        }
+        None
+    }
+
     /// Lays the rows of the facts at these places under a key, for which there is room, and answers where they stand.
     /// The rows leave out the column.
     #[inline(never)]
