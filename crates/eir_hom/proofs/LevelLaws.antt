@@ -15,7 +15,7 @@ use Rattle.eir_hom.specs.Matching.{Level, with_number, matched, Match}
 use Rattle.eir_hom.specs.Columns.{is_among, seen_after, bound_slots, slots_of, unmarked, AreBelow, AreColumns, Holds}
 use Rattle.eir_hom.specs.MatcherParts.{columns_at, level_in, levels_in, start_in, IsCompiled, AreCompiled, IsRangeFor, IsRange, IsMatcher, HasLevelRoom}
 use Rattle.eir_hom.proofs.ColumnLaws.{cases-bool, same-true, other-false}
-use Rattle.eir_hom.proofs.MatcherLaws.{holds-start, binds-start, next-level, range-is}
+use Rattle.eir_hom.proofs.MatcherLaws.{holds-start, binds-start, next-level, range-is, range-for}
 use Rattle.eir_hom.proofs.MatchedLaws.{matched-more}
 use Rattle.eir_hom.proofs.ScanLaws.{seen_of}
 use Rattle.eir_hom.proofs.BuildLaws.{fresh, among-below}
@@ -273,3 +273,14 @@ renumbered ts cs ls given images flags ranges next placed depth now slot number 
       fresh ts cs ls given after flags next placed depth empty (p.flags_room ∙ sym same) (omega (arith, p.ranges_room)) p.placed_room (rw same p.given_below) compiled p.bound start,
       rw (same, numbered given images slot number lt) (ap other v),
     )
+
+-- the rows of the first level stay where another slot than its key has another number
+pub unmoved : (ts : TablesView) (cs : List Column) (ls : List CompiledLevel) (given images : List ℕ)
+    (flags : List Bool) (ranges : List Range) (placed : List ℕ) (depth slot number : ℕ) (l : CompiledLevel) (r : Range) →
+    IsMatcher ts cs ls given images flags ranges placed depth → slice_get ls 0 ≡ Some l → slice_get ranges 0 ≡ Some r →
+    l.key ≢ slot → IsRangeFor ts l (get_or (set images slot number) l.key 0) r
+unmoved ts cs ls given images flags ranges placed depth slot number l r p a b apart =
+    let start = start_in given images in
+    let n = next-level ts cs (length images) given ls start [] start l p.compiled (binds-start given images) refl a in
+    let before = range-for ts cs (length images) start l images r n (holds-start given images) (p.ranges_are 0 l r start (omega arith) a b refl) in
+    subst (λ i. IsRangeFor ts l i r) (sym (get_or-set_other images slot l.key number 0 apart)) before

@@ -101,6 +101,18 @@ range-is ts cs slots m l images r n h f =
       within = rw n.compiled.stride at f.within;
     }
 
+-- the range that is there has the rows for the key's number
+pub range-for : (ts : TablesView) (cs : List Column) (slots : ℕ) (m : Bindings) (l : CompiledLevel) (images : List ℕ)
+    (r : Range) → Next ts cs slots m l → Holds images m → IsRange ts cs l r m →
+    IsRangeFor ts l (get_or images l.key 0) r
+range-for ts cs slots m l images r n h f =
+    let b = bound-some m n.seen l.key n.binds n.compiled.key_seen in
+    let at : get_or images l.key 0 ≡ unwrap_or (bound_to m l.key) 0 = rw b.1 (h.images_are l.key b.0 b.1) in
+    record {
+      rows = ap (λ i. rows_in ts.cells i r) n.compiled.stride ∙ f.rows ∙ ap (λ i. get_or (table_at ts.tables l.table).rows i []) (sym at);
+      within = rw n.compiled.stride f.within;
+    }
+
 -- fewer choices
 pub lifted : (ts : TablesView) (cs : List Column) (ls : List CompiledLevel) (given images : List ℕ)
     (flags : List Bool) (ranges : List Range) (placed : List ℕ) (depth d : ℕ) → d ≤ depth →

@@ -198,12 +198,12 @@ impl Matcher {
         ensures { self.new ≡ record self.old { start = with_number self.old.start slot number } }
     {
         self.images[slot] = number;
-        set_range(
+        renew_range(
             &mut self.stock,
             &self.levels,
             &self.images,
             &mut self.ranges,
-            0,
+            slot,
         );
     }
 
@@ -340,5 +340,32 @@ fn set_range(
     if level < levels.len() {
         let CompiledLevel { key, table, .. } = levels[level];
         ranges[level] = stock.range(table, images[key]);
+    }
+}
+
+/// Sets the range of the first level anew where this slot, whose number is another now, is the one that picks its rows.
+fn renew_range(
+    stock: &mut Stock,
+    levels: &[CompiledLevel],
+    images: &[usize],
+    ranges: &mut [Range],
+    slot: usize,
+)
+    requires room { length levels.now ≤ length ranges.old }
+    requires parts { (l : CompiledLevel) → slice_get levels.now 0 ≡ Some l
+        → (l.table < length stock.old.tables) × (l.key < length images.now) }
+    requires others { (l : CompiledLevel) (r : Range) → slice_get levels.now 0 ≡ Some l
+        → slice_get ranges.old 0 ≡ Some r → l.key ≢ slot
+        → IsRangeFor stock.old l (get_or images.now l.key 0) r }
+    ensures tables { stock.new.tables ≡ stock.old.tables }
+    ensures shapes { stock.new.shapes ≡ stock.old.shapes }
+    ensures cells { take (length stock.old.cells) stock.new.cells ≡ stock.old.cells }
+    ensures length { length ranges.new ≡ length ranges.old }
+    ensures range { (l : CompiledLevel) (r : Range) → slice_get levels.now 0 ≡ Some l
+        → slice_get ranges.new 0 ≡ Some r
+        → IsRangeFor stock.new l (get_or images.now l.key 0) r }
+{
+    if !levels.is_empty() && levels[0].key == slot {
+        set_range(stock, levels, images, ranges, 0);
     }
 }
