@@ -1,5 +1,4 @@
-use Rattle.std.proofs.Common.{◌≡◌, ap, refl}
-use Rattle.eir_hom.specs.Stocks.{IsStocked}
+use Rattle.std.proofs.Common.{ap, refl}
 use Rattle.eir_hom.proofs.LaidLaws.{asked, its_rows}
 use Rattle.eir_hom.proofs.stock.Stock.range.Goals as goal
 

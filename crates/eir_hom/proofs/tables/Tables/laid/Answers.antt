@@ -1,4 +1,4 @@
-use Rattle.std.proofs.Common.{rules, ◌≡◌, ◌+◌, ◌<◌, ◌^◌, Option, Some, None, IfSome, length, map, option_map, ap, arith}
+use Rattle.std.proofs.Common.{rules, ◌≡◌, ◌+◌, ◌<◌, ◌^◌, Option, Some, None, IfSome, length, option_map, ap, arith}
 use Rattle.std.proofs.lemmas.List.{length-map}
 use Rattle.eir_hom.specs.Layouts.{table_of}
 use Rattle.eir_hom.proofs.TableLaws.{fits, rows-at, within-at}
