@@ -2,4 +2,6 @@ mod PrefixLaws
 mod ValueLaws
 mod PositionLaws
 mod NumberLaws
+mod OpeningLaws
+mod EqualLaws
 mod ImageLaws

@@ -1,7 +1,8 @@
 -- Texts that are written part by part, and how far they come where there is no memory for all of a part.
 use Rattle.std.proofs.Common.{◌≡◌, ℕ, zero, suc, ◌+◌, ◌-◌, ◌<◌, ◌≤◌, Bool, true, false, cond, filter, List, [], ◌∷◌, ◌++◌, flat_map, length, take, drop, get_or, refl, sym, ◌∙◌, ap, subst, append_assoc, arith}
-use Rattle.std.specs.Prelude.{Result, Ok, Err, OnErr}
+use Rattle.std.specs.Prelude.{Result, Ok, Err, OnOk, OnErr, Option, None, slice_get}
 use Rattle.std.proofs.lemmas.List.{append-nil, take_all}
+use Rattle.std.proofs.lemmas.Option.{none-some}
 use Rattle.eir_print.specs.Prefixes.{AppendsPrefix}
 use Rattle.eir_print.specs.Words.{joined, text_at}
 
@@ -14,6 +15,10 @@ if_err P (Err e) p = p
 pub on_err : {T E : Type 0} (P Q : Type 0) (r : Result T E) → (P → Q) → OnErr r P → OnErr r Q
 on_err P Q (Ok v) f h = h
 on_err P Q (Err e) f h = f h
+
+pub on_ok : {T E : Type 0} (P Q : Type 0) (r : Result T E) → (P → Q) → OnOk r P → OnOk r Q
+on_ok P Q (Ok v) f h = f h
+on_ok P Q (Err e) f h = h
 
 -- a prefix of the first part is a prefix of all
 pub prefix-first : (old new t u whole : List ℕ) → AppendsPrefix old new t → whole ≡ t ++ u → AppendsPrefix old new whole
@@ -95,6 +100,11 @@ module _ {X : Type 0} (text : X → List ℕ) where
 
   pub texts-all : (start out : List ℕ) (xs : List X) (i : ℕ) → length xs ≤ i → out ≡ start ++ flat_map text (take i xs) → out ≡ start ++ flat_map text xs
   texts-all start out xs i l e = e ∙ ap (λ ys. start ++ flat_map text ys) (take_all i xs l)
+
+  -- where there is no first element
+  pub texts-nothing : (out : List ℕ) (xs : List X) → None ≡ slice_get xs 0 → out ≡ out ++ flat_map text xs
+  texts-nothing out [] e = sym (append-nil out)
+  texts-nothing out (x ∷ xs) e = absurd (none-some x e)
 
   -- the first text stands alone, the others with the separator in front
   pub joined-split : (sep : List ℕ) (xs : List X) (d x : X) → 1 ≤ length xs → x ≡ get_or xs 0 d → joined sep text xs ≡ text x ++ flat_map (λ y. sep ++ text y) (take (length xs - 1) (drop 1 xs))

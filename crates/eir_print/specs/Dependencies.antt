@@ -5,7 +5,8 @@
 --   atom_text schema d a        == a relation with its terms
 --   dependency_text schema d    == a dependency: premise, arrow, existential variables, conclusion
 --   mapping_text schema M       == each dependency on a line
-use Rattle.std.specs.Prelude.{ℕ, suc, nat_eq, cond, List, [], ◌∷◌, ◌++◌, filter, flat_map, codes, decimal}
+--   BeginsAlike d e             == e has the premise of d, and the names of its variables
+use Rattle.std.specs.Prelude.{◌≡◌, ℕ, suc, nat_eq, cond, List, [], ◌∷◌, ◌++◌, filter, flat_map, codes, decimal}
 use Rattle.std.specs.List.{list_any}
 use Rattle.eir_term.specs.declared.term.Term.{Term}
 use Rattle.eir_term.specs.declared.term.Term.TheVariants.{Var, Fixed}
@@ -57,11 +58,14 @@ abbrev pub exists_text : Dependency → List ℕ → List ℕ
 exists_text d [] = []
 exists_text d (x ∷ xs) = listed_text d (x ∷ xs)
 
--- these atoms as a premise, an arrow, existential variables, and these as a conclusion, with the variables of d
-abbrev pub implication_text : List Relation → Dependency → List Atom → List Atom → List ℕ
-implication_text schema d premise conclusion =
-    premise_text schema d premise ++ codes " -> " ++ exists_text d (existential_variables d)
+-- an arrow, existential variables, and these atoms as a conclusion, with the variables of d
+abbrev pub implied_text : List Relation → Dependency → List Atom → List ℕ
+implied_text schema d conclusion = codes " -> " ++ exists_text d (existential_variables d)
     ++ joined (codes " & ") (atom_text schema d) conclusion
+
+-- these atoms as a premise, and these as a conclusion, with the variables of d
+abbrev pub implication_text : List Relation → Dependency → List Atom → List Atom → List ℕ
+implication_text schema d premise conclusion = premise_text schema d premise ++ implied_text schema d conclusion
 
 -- the same of a dependency
 abbrev pub dependency_text : List Relation → Dependency → List ℕ
@@ -74,3 +78,9 @@ dependency_line schema d = dependency_text schema d ++ codes "\n"
 -- each dependency on a line
 abbrev pub mapping_text : List Relation → List Dependency → List ℕ
 mapping_text schema M = flat_map (dependency_line schema) M
+
+-- e has the premise of d, and the names of its variables
+pub record BeginsAlike (d e : Dependency) : Type 0 where
+  pub premise : d.premise ≡ e.premise
+  pub names : (x : ℕ) → variable_text d x ≡ variable_text e x
+  pub exists : existential_variables d ≡ existential_variables e

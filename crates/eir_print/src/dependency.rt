@@ -2,7 +2,8 @@
 ghost use Rattle.std.specs.Prelude.{◌≡◌, ◌++◌, OnOk, OnErr, codes, flat_map};
 ghost use Rattle.eir_print.specs.Prefixes.{AppendsPrefix};
 ghost use Rattle.eir_print.specs.Words.{joined};
-ghost use Rattle.eir_print.specs.Dependencies.{term_text, atom_text, premise_text, implication_text, dependency_text};
+ghost use Rattle.eir_print.specs.Dependencies.{term_text, atom_text, premise_text, implied_text};
+ghost use Rattle.eir_print.specs.Dependencies.{implication_text, dependency_text};
 
 use crate::numbered::Numbered;
 use crate::words::print_relation;
@@ -39,13 +40,27 @@ fn print_implication(
         (implication_text schema.now numbered.now premise.now conclusion.now)) }
 {
     print_premise(numbered, premise, schema, out)?;
+    print_implied(numbered, conclusion, schema, out)
+}
+
+/// Appends an arrow, the existential variables, and these atoms as a conclusion.
+pub(crate) fn print_implied(
+    numbered: &Numbered,
+    conclusion: &[Atom],
+    schema: &Schema,
+    out: &mut Text,
+) -> Result<(), Memory>
+    ensures ok { OnOk result (out.new ≡ out.old ++ implied_text schema.now numbered.now conclusion.now) }
+    ensures err { OnErr result (AppendsPrefix out.old out.new
+        (implied_text schema.now numbered.now conclusion.now)) }
+{
     out.push_all(b" -> ")?;
     numbered.print_exists(out)?;
     print_atoms(numbered, conclusion, schema, out)
 }
 
 /// Appends the atoms of a premise, or `true` where there is none.
-fn print_premise(
+pub(crate) fn print_premise(
     numbered: &Numbered,
     atoms: &[Atom],
     schema: &Schema,

@@ -15,10 +15,12 @@
 
 mod chased;
 mod dependency;
+mod equal;
 mod exchange;
 mod fact;
 mod mapping;
 mod numbered;
+mod opening;
 mod reduced;
 mod refusal;
 mod replies;

@@ -1,12 +1,13 @@
 //! Dependencies with the numbers that their variables are printed by.
-ghost use Rattle.std.specs.Prelude.{◌≡◌, ◌++◌, ◌<◌, ◌^◌, IfOk, OnOk, OnErr, nat_eq, codes, flat_map};
+ghost use Rattle.std.specs.Prelude.{◌≡◌, ◌++◌, ◌<◌, ◌^◌, IsTrue, IfOk, OnOk, OnErr, nat_eq, codes, flat_map};
 ghost use Rattle.indexmap.specs.IndexSet.{insert_all};
 ghost use Rattle.eir_term.specs.Lists.{distinct, place_of};
 ghost use Rattle.eir_term.specs.Dependencies.{term_vars, vars};
 ghost use Rattle.eir_print.specs.Prefixes.{AppendsPrefix};
 ghost use Rattle.eir_print.specs.Dependencies.{listed_text, exists_text, existential_variables};
-ghost use Rattle.eir_print.specs.Dependencies.{numbered_name, variable_text};
+ghost use Rattle.eir_print.specs.Dependencies.{numbered_name, variable_text, BeginsAlike};
 
+use crate::equal::are_equal;
 use crate::words::print_number;
 use eir_dep::Dep;
 use eir_term::{Atom, Memory, Term, Text};
@@ -56,6 +57,15 @@ impl Numbered<'_> {
             premise,
             existential,
         })
+    }
+
+    /// Whether another dependency begins as this one does, which is found out where neither has an existential variable.
+    pub(crate) fn begins_as(&self, dep: &Dep) -> bool
+        ensures { IsTrue result → BeginsAlike self.now dep.now }
+    {
+        self.dep.exists().is_empty()
+            && dep.exists().is_empty()
+            && are_equal(self.dep.premise(), dep.premise())
     }
 
     /// Appends the name of a variable.
