@@ -1,19 +1,11 @@
 -- Lists that have the same element at each place, and terms that a test finds equal.
-use Rattle.std.proofs.Common.{◌≡◌, ℕ, suc, ◌+◌, ◌<◌, Bool, false, List, [], ◌∷◌, length, slice_get, inl, inr, refl, sym, ap, ap₂, subst, arith}
+use Rattle.std.proofs.Common.{◌≡◌, ℕ, suc, ◌<◌, Bool, false, List, [], ◌∷◌, length, slice_get, refl, sym, ap, ap₂, subst, arith}
 use Rattle.std.specs.Prelude.{Decides, ◌==◌}
-use Rattle.std.proofs.lemmas.Bool.{cases_lt, false≢true}
+use Rattle.std.proofs.lemmas.Bool.{false≢true}
 use Rattle.std.proofs.lemmas.Bool.Decides.{Decides-eqb}
 use Rattle.std.proofs.lemmas.Option.{same_Some}
 use Rattle.eir_term.specs.declared.term.Term.{Term}
 use Rattle.eir_term.specs.declared.term.Term.TheVariants.{Var, Fixed}
-
--- one place more
-pub same-more : {X : Type 0} (xs ys : List X) (i : ℕ) → ((k : ℕ) → k < i → slice_get xs k ≡ slice_get ys k) →
-    slice_get xs i ≡ slice_get ys i → (k : ℕ) → k < i + 1 → slice_get xs k ≡ slice_get ys k
-same-more xs ys i before here k l = elim (cases_lt k i) [
-  | inl b ↦ before k b
-  | inr b ↦ (let e : i ≡ k = omega arith in subst (λ j. slice_get xs j ≡ slice_get ys j) e here)
-]
 
 -- lists of one length with the same elements are one
 pub same-lists : {X : Type 0} (xs ys : List X) → length xs ≡ length ys →
@@ -23,7 +15,7 @@ same-lists [] (y ∷ ys) l h = absurd (omega arith)
 same-lists (x ∷ xs) [] l h = absurd (omega arith)
 same-lists (x ∷ xs) (y ∷ ys) l h =
     ap₂ (λ z zs. z ∷ zs) (same_Some _ _ (h 0 (omega arith)))
-      (same-lists xs ys (omega arith) (λ k b. h (suc k) (omega arith)))
+    (same-lists xs ys (omega arith) (λ k b. h (suc k) (omega arith)))
 
 -- a test of terms that compares the numbers of terms of one kind decides whether they are equal
 pub term-decides : (E : Term → Term → Bool) → ((a b : ℕ) → E (Var a) (Var b) ≡ (a == b)) →
@@ -31,11 +23,11 @@ pub term-decides : (E : Term → Term → Bool) → ((a b : ℕ) → E (Var a) (
     ((a b : ℕ) → E (Fixed a) (Fixed b) ≡ (a == b)) → (t u : Term) → Decides (E t u) (t ≡ u)
 term-decides E v f g w (Var a) (Var b) =
     subst (λ r. Decides r (Var a ≡ Var b)) (sym (v a b))
-      (λ t. ap Var ((Decides-eqb a b).0 t), λ e. (Decides-eqb a b).1 cc)
+    (λ t. ap Var ((Decides-eqb a b).0 t), λ e. (Decides-eqb a b).1 cc)
 term-decides E v f g w (Var a) (Fixed b) =
     subst (λ r. Decides r (Var a ≡ Fixed b)) (sym (f a b)) (λ t. absurd (false≢true t), λ e. cc)
 term-decides E v f g w (Fixed a) (Var b) =
     subst (λ r. Decides r (Fixed a ≡ Var b)) (sym (g a b)) (λ t. absurd (false≢true t), λ e. cc)
 term-decides E v f g w (Fixed a) (Fixed b) =
     subst (λ r. Decides r (Fixed a ≡ Fixed b)) (sym (w a b))
-      (λ t. ap Fixed ((Decides-eqb a b).0 t), λ e. (Decides-eqb a b).1 cc)
+    (λ t. ap Fixed ((Decides-eqb a b).0 t), λ e. (Decides-eqb a b).1 cc)

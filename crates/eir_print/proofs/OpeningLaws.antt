@@ -1,5 +1,5 @@
 -- Dependencies that begin alike are printed alike, but for their conclusions.
-use Rattle.std.proofs.Common.{◌≡◌, ℕ, Bool, false, cond, List, [], ◌∷◌, ◌++◌, filter, flat_map, nat_eq, codes, refl, sym}
+use Rattle.std.proofs.Common.{◌≡◌, ℕ, cond, List, [], ◌∷◌, ◌++◌, filter, flat_map, nat_eq, codes, refl, sym}
 use Rattle.std.proofs.Common.{◌∙◌, ap, ap₂, subst}
 use Rattle.std.specs.List.{list_any}
 use Rattle.eir_term.specs.declared.term.Term.{Term}
@@ -22,13 +22,16 @@ begin-alike d e n m p = record {
   where
     name : ℕ → List Atom → List ℕ
     name x atoms = numbered_name (codes "x") (place_of nat_eq x (distinct nat_eq (vars atoms)))
+
     named : (d : Dependency) (x : ℕ) → d.exists ≡ [] → variable_text d x ≡ name x d.premise
     named d x n =
         ap (λ es. cond (list_any (nat_eq x) es)
-          (numbered_name (codes "y") (place_of nat_eq x (existential_variables d))) (name x d.premise)) n
+        (numbered_name (codes "y") (place_of nat_eq x (existential_variables d))) (name x d.premise)) n
+
     nobody : (xs : List ℕ) → filter (λ x. list_any (nat_eq x) []) xs ≡ []
     nobody [] = refl
     nobody (x ∷ xs) = nobody xs
+
     none : (d : Dependency) → d.exists ≡ [] → existential_variables d ≡ []
     none d n =
         ap (λ es. distinct nat_eq (filter (λ x. list_any (nat_eq x) es) (vars d.conclusion))) n
@@ -56,7 +59,7 @@ module _ (schema : List Relation) (d e : Dependency) (alike : BeginsAlike d e) w
   atom-same : (a : Atom) → atom_text schema d a ≡ atom_text schema e a
   atom-same a =
       ap (λ t. relation_text schema a.rel ++ codes "(" ++ t ++ codes ")")
-        (joined-same (codes ",") (term_text d) (term_text e) term-same a.args)
+      (joined-same (codes ",") (term_text d) (term_text e) term-same a.args)
 
   atoms-same : (atoms : List Atom) → joined (codes " & ") (atom_text schema d) atoms
       ≡ joined (codes " & ") (atom_text schema e) atoms
@@ -70,12 +73,12 @@ module _ (schema : List Relation) (d e : Dependency) (alike : BeginsAlike d e) w
   exists-same [] = refl
   exists-same (x ∷ xs) =
       ap (λ t. codes "exists" ++ t ++ codes " . ")
-        (flat_map-same (λ y. codes " " ++ variable_text d y) (λ y. codes " " ++ variable_text e y)
-          (λ y. ap (λ t. codes " " ++ t) (alike.names y)) (x ∷ xs))
+      (flat_map-same (λ y. codes " " ++ variable_text d y) (λ y. codes " " ++ variable_text e y)
+      (λ y. ap (λ t. codes " " ++ t) (alike.names y)) (x ∷ xs))
 
   -- the premise of the one and the conclusion of the other are the other's text
   pub printed-alike : implication_text schema d d.premise e.conclusion ≡ dependency_text schema e
   printed-alike =
       ap₂ (λ p q. p ++ q) (premise-same d.premise ∙ ap (λ atoms. premise_text schema e atoms) alike.premise)
-        (ap₂ (λ x c. codes " -> " ++ x ++ c)
-          (exists-same (existential_variables d) ∙ ap (λ xs. exists_text e xs) alike.exists) (atoms-same e.conclusion))
+      (ap₂ (λ x c. codes " -> " ++ x ++ c)
+      (exists-same (existential_variables d) ∙ ap (λ xs. exists_text e xs) alike.exists) (atoms-same e.conclusion))

@@ -1,8 +1,8 @@
 -- Texts that are written part by part, and how far they come where there is no memory for all of a part.
-use Rattle.std.proofs.Common.{◌≡◌, ℕ, zero, suc, ◌+◌, ◌-◌, ◌<◌, ◌≤◌, Bool, true, false, cond, filter, List, [], ◌∷◌, ◌++◌, flat_map, length, take, drop, get_or, refl, sym, ◌∙◌, ap, subst, append_assoc, arith}
-use Rattle.std.specs.Prelude.{Result, Ok, Err, OnOk, OnErr, Option, None, slice_get}
+use Rattle.std.proofs.Common.{◌≡◌, ℕ, zero, suc, ◌+◌, ◌-◌, ◌<◌, ◌≤◌, Bool, true, false, cond, filter, List, [], ◌∷◌, ◌++◌, flat_map, length, take, drop, get_or, refl, sym, ◌∙◌, ap, append_assoc, arith}
+use Rattle.std.specs.Prelude.{Result, Ok, Err, OnOk, OnErr, Some, None, slice_get}
 use Rattle.std.proofs.lemmas.List.{append-nil, take_all}
-use Rattle.std.proofs.lemmas.Option.{none-some}
+use Rattle.std.proofs.lemmas.Option.{none-some, same_Some}
 use Rattle.eir_print.specs.Prefixes.{AppendsPrefix}
 use Rattle.eir_print.specs.Words.{joined, text_at}
 
@@ -105,6 +105,16 @@ module _ {X : Type 0} (text : X → List ℕ) where
   pub texts-nothing : (out : List ℕ) (xs : List X) → None ≡ slice_get xs 0 → out ≡ out ++ flat_map text xs
   texts-nothing out [] e = sym (append-nil out)
   texts-nothing out (x ∷ xs) e = absurd (none-some x e)
+
+  -- the first text, and those of the other elements
+  pub texts-first : (xs : List X) (x : X) → Some x ≡ slice_get xs 0 → flat_map text xs ≡ text x ++ flat_map text (drop 1 xs)
+  texts-first [] x e = absurd (none-some x (sym e))
+  texts-first (y ∷ ys) x e = ap (λ z. text z ++ flat_map text ys) (sym (same_Some _ _ e))
+
+  pub text-further : (xs : List X) (i : ℕ) → 1 ≤ i → text_at text xs i ≡ text_at text (drop 1 xs) (i - 1)
+  text-further xs zero l = absurd (omega arith)
+  text-further [] (suc i) l = refl
+  text-further (x ∷ xs) (suc i) l = ap (λ k. text_at text xs k) (let q : i ≡ suc i - 1 = omega arith in q)
 
   -- the first text stands alone, the others with the separator in front
   pub joined-split : (sep : List ℕ) (xs : List X) (d x : X) → 1 ≤ length xs → x ≡ get_or xs 0 d → joined sep text xs ≡ text x ++ flat_map (λ y. sep ++ text y) (take (length xs - 1) (drop 1 xs))

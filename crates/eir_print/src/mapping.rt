@@ -1,5 +1,5 @@
 //! The texts of mappings.
-ghost use Rattle.std.specs.Prelude.{◌≡◌, ◌++◌, OnOk, OnErr};
+ghost use Rattle.std.specs.Prelude.{◌≡◌, ◌++◌, OnOk, OnErr, Some, slice_get};
 ghost use Rattle.eir_print.specs.Prefixes.{AppendsPrefix};
 ghost use Rattle.eir_print.specs.Words.{text_at};
 ghost use Rattle.eir_print.specs.Dependencies.{dependency_line, mapping_text};
@@ -27,7 +27,7 @@ pub(crate) fn print_mapping(
     }
 }
 
-/// The same, where a dependency to begin with is known.
+/// The same, where the first dependency is known.
 fn print_lines<'a>(
     alloc: Global,
     first: &'a Dep,
@@ -35,11 +35,13 @@ fn print_lines<'a>(
     schema: &'a Schema,
     out: &mut Text,
 ) -> Result<(), Memory>
+    requires { Some first.now ≡ slice_get mapping.now 0 }
     ensures ok { OnOk result (out.new ≡ out.old ++ mapping_text schema.now mapping.now) }
     ensures err { OnErr result (AppendsPrefix out.old out.new (mapping_text schema.now mapping.now)) }
 {
     let mut opening = Opening::new(alloc, first, schema)?;
-    for place in 0..mapping.len() {
+    opening.print_line(first, out)?;
+    for place in 1..mapping.len() {
         print_line_at(alloc, place, mapping, &mut opening, out)?;
     }
     Ok(())

@@ -2,6 +2,7 @@
 //! memory would pass the check.
 ghost use Rattle.std.specs.Prelude.{◌≡◌, IfOk};
 
+use crate::mapping::print_mapping;
 use crate::{
     At, Reasons, Reduction, Refusal, Reply, Stored, StoredFiles, print_dep, print_fact,
     print_refusal, print_reply,
@@ -309,6 +310,23 @@ fn dependencies(rt: HostRuntime) -> Result<(), Fail> {
         print_dep(alloc, &dep, &schema, &mut out)?;
         assert_eq!(rt; out.bytes(), text.as_bytes());
     }
+    Ok(())
+}
+
+/// A premise that comes again, and one that does not.
+#[test]
+fn shared_premises(rt: HostRuntime) -> Result<(), Fail> {
+    let alloc = rt.alloc();
+    let schema = schema(alloc)?;
+    let mut mapping = Mapping::new(alloc);
+    mapping.push(dependency(alloc, &[[7, 5], [5, 3]], &[], &[[7, 3]])?)?;
+    mapping.push(dependency(alloc, &[[7, 5], [5, 3]], &[], &[[3, 5]])?)?;
+    mapping.push(dependency(alloc, &[[5, 7], [5, 3]], &[], &[[7, 3]])?)?;
+    let mut out = Text::make(alloc, b"")?;
+    print_mapping(alloc, &mapping, &schema, &mut out)?;
+    let text =
+        "E(x1,x2) & E(x2,x3) -> P(x1,x3)\nE(x1,x2) & E(x2,x3) -> P(x3,x2)\nE(x1,x2) & E(x1,x3) -> P(x2,x3)\n";
+    assert_eq!(rt; out.bytes(), text.as_bytes());
     Ok(())
 }
 

@@ -10,7 +10,7 @@ returns-in_err-print_before-clause-err c =
     let d = c.args.self.now.0 in
     let text = dependency_text c.args.self.now.1 c.args.dep.now in
     let same = ap (λ atoms. implication_text c.args.self.now.1 d d.premise atoms) c.conclusion.ensures.atoms
-      ∙ printed-alike c.args.self.now.1 d c.args.dep.now c.requires in
+    ∙ printed-alike c.args.self.now.1 d c.args.dep.now c.requires in
     if_err _ _ (first _ _ text (codes "\n")
     (subst (λ t. AppendsPrefix c.args.out.now c.print_before.new.out t) same c.in_err-print_before.ensures.err))
 
@@ -19,7 +19,7 @@ returns-clause-ok c =
     let d = c.args.self.now.0 in
     let text = dependency_text c.args.self.now.1 c.args.dep.now in
     let same = ap (λ atoms. implication_text c.args.self.now.1 d d.premise atoms) c.conclusion.ensures.atoms
-      ∙ printed-alike c.args.self.now.1 d c.args.dep.now c.requires in
+    ∙ printed-alike c.args.self.now.1 d c.args.dep.now c.requires in
     on_ok _ _ c.push_all.result
     (λ n. done _ _ _ text (codes "\n") (c.in_ok-print_before.ensures.ok ∙ ap (λ t. c.args.out.now ++ t) same) n)
     c.push_all.ensures.ok
@@ -29,7 +29,7 @@ returns-clause-err c =
     let d = c.args.self.now.0 in
     let text = dependency_text c.args.self.now.1 c.args.dep.now in
     let same = ap (λ atoms. implication_text c.args.self.now.1 d d.premise atoms) c.conclusion.ensures.atoms
-      ∙ printed-alike c.args.self.now.1 d c.args.dep.now c.requires in
+    ∙ printed-alike c.args.self.now.1 d c.args.dep.now c.requires in
     on_err _ _ c.push_all.result
     (λ n. then _ _ _ text (codes "\n") (c.in_ok-print_before.ensures.ok ∙ ap (λ t. c.args.out.now ++ t) same)
     (none _ _ _ n))
