@@ -62,11 +62,11 @@ exchange_text files = counted_line (codes "exchange") (length files) ++ flat_map
 -- a reply
 abbrev pub reply_text : List Relation → List (List ℕ) → List Example → Reply → List ℕ
 reply_text schema names xs reply.Done = codes "ok\n"
-reply_text schema names xs (reply.Verdict kind v) = finding_text kind schema names xs (finding_of v)
+reply_text schema names xs (reply.Verdict kind v) = finding_text kind schema names xs (finding_of v.value)
 reply_text schema names xs (reply.Spent limit pairs) = spent_text limit pairs
 reply_text schema names xs (reply.SpentAt limit place) = spent_at_text limit place
 reply_text schema names xs (reply.Tries n) = counted_line (codes "tries") n
-reply_text schema names xs (reply.Reduced kind r) = reduced_text kind schema r
-reply_text schema names xs (reply.Chased example i) = chased_text schema names example i.facts
+reply_text schema names xs (reply.Reduced kind r) = reduced_text kind schema r.value
+reply_text schema names xs (reply.Chased example i) = chased_text schema names example i.value.facts
 reply_text schema names xs (reply.Cert file bytes) = cert_text file bytes
 reply_text schema names xs (reply.Exchange files) = exchange_text files

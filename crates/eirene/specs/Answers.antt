@@ -18,7 +18,7 @@ use Rattle.eirene.specs.Replies.{Request, Answer, done, refused, found, answer, 
 -- the reply is that of the answer, where a fit is for the kind; no other reply comes, since no other command is served
 abbrev pub IsReply : Reply → Answer → Kind → Type 0
 IsReply reply.Done a kind = a ≡ done
-IsReply (reply.Verdict k v) a kind = (a ≡ found (finding_of v)) × (k ≡ kind)
+IsReply (reply.Verdict k v) a kind = (a ≡ found (finding_of v.value)) × (k ≡ kind)
 IsReply other a kind = ⊥
 
 -- want of memory, or the answer to what is asked, which leaves the workspace
