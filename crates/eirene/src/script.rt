@@ -1,5 +1,5 @@
 //! A script that is answered while it is read.
-ghost use Rattle.std.specs.Prelude.{◌≡◌, ◌⊎◌, ◌≤◌, ◌+◌, ◌++◌, false, List, [], ℕ, length, take, Err, IfOk, OnOk, OnErr};
+ghost use Rattle.std.specs.Prelude.{◌≡◌, ◌⊎◌, ◌≤◌, ◌+◌, ◌++◌, false, List, [], ℕ, length, take, Err, IfOk, OnOk, OnErr, IsTrue};
 ghost use Rattle.std.specs.Io.KnownBytes.{Appends};
 ghost use Rattle.eir_io.specs.Causes.{HasStopCause};
 ghost use Rattle.eir_script.specs.Lines.{last_line, trimmed};
@@ -125,6 +125,10 @@ impl Script {
             (self.old.pending ++ line_reply self.old.workspace (trimmed line))) }
         ensures cause { HasStopCause (K.faults out.old) (K.faults out.new) result }
     {
+        if self.has_no_bytes() {
+            self.cutter.next();
+            return Ok(());
+        }
         let reply = self.reply();
         self.cutter.next();
         match reply {
@@ -137,6 +141,16 @@ impl Script {
                 out,
             ),
             Err(refusal) => add_refusal(&refusal, &mut self.pending, out),
+        }
+    }
+
+    /// Whether the line that was taken has no bytes. Such a line asks nothing.
+    fn has_no_bytes(&self) -> bool
+        ensures { (line : List ℕ) → Holds self.now.cutter line → IsTrue result → trimmed line ≡ [] }
+    {
+        match self.cutter.line() {
+            LineBytes::Bytes(line) => line.is_empty(),
+            LineBytes::Long => false,
         }
     }
 

@@ -27,7 +27,7 @@ returns-in-Err g c = record {
   next = λ line held. on_ok _ _ c.add_refusal.result
       (λ apart. refused-left (trimmed line) c.args.self.now.workspace c.reply-reply.new.self.workspace c.in-Err.refusal (c.in-Err.ensures.answer line held) (Err c.in-Err.refusal) refl apart (c.in-Err.ensures.next line held))
       c.add_refusal.ensures.told;
-  begun = if_ok _ c.add_refusal.result c.next.ensures;
+  begun = if_ok _ c.add_refusal.result c.next-2.ensures;
   err = λ line held. on_err _ _ c.add_refusal.result
       (λ h. refused-prefix (trimmed line) c.args.self.now.workspace c.reply-reply.new.self.workspace c.in-Err.refusal (c.in-Err.ensures.answer line held) (Err c.in-Err.refusal) _ _ _ _ refl (c.in-Err.ensures.next line held) c.in-Err.ensures.pending h)
       c.add_refusal.ensures.err;
