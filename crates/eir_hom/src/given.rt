@@ -4,7 +4,9 @@ ghost use Rattle.std.specs.Prelude.{slice_get};
 ghost use Rattle.eir_term.specs.declared.val.Val.{Val};
 ghost use Rattle.eir_term.specs.Lists.{◌∈◌};
 ghost use Rattle.eir_term.specs.Instances as instances;
+ghost use Rattle.eir_term.specs.Values.{val_eq};
 ghost use Rattle.eir_hom.specs.declared.given.Given.{Given};
+ghost use Rattle.eir_hom.specs.Kinds.{kind_of, number_in};
 ghost use Rattle.eir_hom.specs.Listings.{IsEntry, AreEntries};
 
 use eir_inst::Indexed;
@@ -44,20 +46,19 @@ pub(crate) fn list_given(alloc: Global, source: &Indexed, start: &Map) -> Result
 /// Makes the entry at a place that of another pair, if there is one, and answers the slot whose number that changes, if
 /// it changes one. A pair that is there already costs a comparison.
 pub(crate) fn renew_at(
-    given: &mut Vec<Given>,
+    given: &mut [Given],
     source: &Indexed,
     place: usize,
     pair: (Val, Val),
 ) -> Option<usize>
-    requires own { (g : Given) → slice_get given.old.items place ≡ Some g
-        → IsEntry source.now.facts (g.name, g.image) g }
-    ensures len { length given.new.items ≡ length given.old.items }
+    requires own { (g : Given) → slice_get given.old place ≡ Some g → IsEntry source.now.facts (g.name, g.image) g }
+    ensures len { length given.new ≡ length given.old }
     ensures entries { (t s : List (Val × Val)) → slice_get t place ≡ Some pair
-        → AreEntries source.now.facts (take place t ++ drop place s) given.old.items
-        → AreEntries source.now.facts (take (place + 1) t ++ drop (place + 1) s) given.new.items }
+        → AreEntries source.now.facts (take place t ++ drop place s) given.old
+        → AreEntries source.now.facts (take (place + 1) t ++ drop (place + 1) s) given.new }
     ensures some { (n : ℕ) → result ≡ Some n → slice_get (instances.values source.now.facts) n ≡ Some pair.0 }
     ensures none { result ≡ None → ((pair.0 ∈ instances.values source.now.facts) → ⊥)
-        ⊎ ((g : Given) × (slice_get given.old.items place ≡ Some g) × (g.name ≡ pair.0) × (g.image ≡ pair.1)) }
+        ⊎ ((g : Given) × (slice_get given.old place ≡ Some g) × (g.name ≡ pair.0) × (g.image ≡ pair.1)) }
 {
     if place < given.len() {
         renew(&mut given[place], source, pair)
@@ -76,13 +77,40 @@ fn renew(given: &mut Given, source: &Indexed, pair: (Val, Val)) -> Option<usize>
     ensures none { result ≡ None → ((pair.0 ∈ instances.values source.now.facts) → ⊥)
         ⊎ ((given.old.name ≡ pair.0) × (given.old.image ≡ pair.1)) }
 {
-    if given.name != pair.0 {
+    if !is_same(given.name, pair.0) {
         *given = entry(source, pair);
         return given.slot;
     }
-    if given.image == pair.1 {
+    if is_same(given.image, pair.1) {
         return None;
     }
     given.image = pair.1;
     given.slot
+}
+
+/// Whether two values are the same. It looks at neither kind by itself, so it takes two comparisons.
+fn is_same(one: Val, other: Val) -> bool
+    ensures { result ≡ val_eq one other }
+{
+    kind(one) == kind(other) && number(one) == number(other)
+}
+
+/// Which kind of value this is.
+fn kind(value: Val) -> u8
+    ensures { result ≡ kind_of value }
+{
+    match value {
+        Val::Const(_) => 0,
+        Val::Fixed(_) => 1,
+        Val::Null(_) => 2,
+    }
+}
+
+/// The number of a value among those of its kind.
+fn number(value: Val) -> u64
+    ensures { result ≡ number_in value }
+{
+    match value {
+        Val::Const(number) | Val::Fixed(number) | Val::Null(number) => number,
+    }
 }
