@@ -12,6 +12,7 @@ pub mod MatchedLaws
 pub mod MatcherLaws
 pub mod ScanLaws
 pub mod BuildLaws
+pub mod LentLaws
 pub mod PairedLaws
 pub mod DepthLaws
 pub mod BindingLaws

@@ -332,9 +332,10 @@ fn write_images(map: &mut Map, search: &Search<LazyMatcher>, target: &Indexed)
         → image_at map.new slot ≡ slice_get (instances.values target.now.facts) w }
 {
     let matcher = search.problem();
+    let images = matcher.images();
     let _choices = search.choices();
     let values = target.values();
     for slot in 0..map.len() {
-        map.set_at(slot, values[matcher.image(slot)]);
+        map.set_at(slot, values[images[slot]]);
     }
 }

@@ -1,5 +1,5 @@
 //! A matcher whose levels are compiled as the search first comes to them.
-ghost use Rattle.std.specs.Prelude.{◌≡◌, ℕ, ◌+◌, ◌<◌, [], IfOk, Some, true, length, map, take};
+ghost use Rattle.std.specs.Prelude.{◌≡◌, ℕ, ◌+◌, ◌<◌, [], IfOk, Some, true, get_or, length, map, take};
 ghost use Rattle.eir_term.specs.Instances.{values};
 ghost use Rattle.eir_hom.specs.FactRows.{Within};
 ghost use Rattle.eir_hom.specs.Compiling.{AreReadyDrafts, drafts_of, slot_in};
@@ -61,13 +61,13 @@ impl LazyMatcher {
         self.matcher.set_start(slot, number);
     }
 
-    /// The number that a slot is bound to; another number where it is not bound.
-    pub(crate) fn image(&self, slot: usize) -> usize
-        ensures { (m : Bindings) (w : ℕ) → matched self.now.levels self.now.start self.now.placed ≡ Some m
-            → bound_to m slot ≡ Some w
-            → result ≡ w }
+    /// The numbers of all slots, lent; a slot that is not bound has any.
+    pub(crate) fn images(&self) -> &[usize]
+        ensures { (m : Bindings) → matched self.now.levels self.now.start self.now.placed ≡ Some m
+            → (slot w : ℕ) → bound_to m slot ≡ Some w
+            → (slot < length result.now) × (get_or result.now slot 0 ≡ w) }
     {
-        self.matcher.image(slot)
+        self.matcher.images()
     }
 }
 

@@ -207,16 +207,13 @@ impl Matcher {
         );
     }
 
-    /// The number that a slot is bound to; another number where it is not bound.
-    pub(crate) fn image(&self, slot: usize) -> usize
-        ensures { (m : Bindings) (w : ℕ) → matched self.now.levels self.now.start self.now.placed ≡ Some m
-            → bound_to m slot ≡ Some w
-            → result ≡ w }
+    /// The numbers of all slots, lent; a slot that is not bound has any.
+    pub(crate) fn images(&self) -> &[usize]
+        ensures { (m : Bindings) → matched self.now.levels self.now.start self.now.placed ≡ Some m
+            → (slot w : ℕ) → bound_to m slot ≡ Some w
+            → (slot < length result.now) × (get_or result.now slot 0 ≡ w) }
     {
-        match self.images.get(slot) {
-            Some(&number) => number,
-            None => 0,
-        }
+        &self.images
     }
 }
 
