@@ -12,7 +12,6 @@ pub mod Columns
 pub mod MatcherParts
 pub mod Levels
 pub mod Progress
-pub mod Kinds
 pub mod Listings
 pub mod Compiling
 pub mod Courses

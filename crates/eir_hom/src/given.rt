@@ -6,7 +6,6 @@ ghost use Rattle.eir_term.specs.Lists.{◌∈◌};
 ghost use Rattle.eir_term.specs.Instances as instances;
 ghost use Rattle.eir_term.specs.Values.{val_eq};
 ghost use Rattle.eir_hom.specs.declared.given.Given.{Given};
-ghost use Rattle.eir_hom.specs.Kinds.{kind_of, number_in};
 ghost use Rattle.eir_hom.specs.Listings.{IsEntry, AreEntries};
 
 use eir_inst::Indexed;
@@ -88,29 +87,14 @@ fn renew(given: &mut Given, source: &Indexed, pair: (Val, Val)) -> Option<usize>
     given.slot
 }
 
-/// Whether two values are the same. It looks at neither kind by itself, so it takes two comparisons.
+/// Whether two values are the same.
 fn is_same(one: Val, other: Val) -> bool
     ensures { result ≡ val_eq one other }
 {
-    kind(one) == kind(other) && number(one) == number(other)
-}
-
-/// Which kind of value this is.
-fn kind(value: Val) -> u8
-    ensures { result ≡ kind_of value }
-{
-    match value {
-        Val::Const(_) => 0,
-        Val::Fixed(_) => 1,
-        Val::Null(_) => 2,
-    }
-}
-
-/// The number of a value among those of its kind.
-fn number(value: Val) -> u64
-    ensures { result ≡ number_in value }
-{
-    match value {
-        Val::Const(number) | Val::Fixed(number) | Val::Null(number) => number,
+    match (one, other) {
+        (Val::Const(number), Val::Const(same)) => number == same,
+        (Val::Fixed(number), Val::Fixed(same)) => number == same,
+        (Val::Null(number), Val::Null(same)) => number == same,
+        _ => false,
     }
 }
